@@ -1,0 +1,50 @@
+-- The netlist of a file: its signals read signals of the file, its gates fit the gate table, and without a loop each state settles to at
+-- most one table. Assumes nothing.
+use mathlib.Core.Path.{_≡_, _∙_}
+use mathlib.Core.List.{List}
+use Prim.Native.Nat.{ℕ, _+_, _*_, _/_, _%_, _<_}
+use native.Mathlib.Decide.{decLt}
+use native.Mathlib.Omega.{arith}
+use lib.ListN.{length}
+use Rattle.netlist.specs.Graph.{LoopFree, WellFormed}
+use Rattle.netlist.specs.Agree.{Agree}
+use Rattle.netlist.specs.Table.{inputRoom, GateFits, gateOf, storeGate}
+use Rattle.netlist.proofs.Net.{one-settled}
+use Rattle.netlist.proofs.Fitting.{fits-more, fits-reads}
+use Rattle.netlist.proofs.Table.{stored-gate, kept-gate}
+use Rattle.series7.proofs.GateLaws.{gate-fits as slice-fits}
+use Rattle.column.specs.File.{sliceCount, inputCount, sliceBody, signalCount, gateAt}
+use Rattle.column.specs.Judge.{readsAt}
+use Rattle.column.specs.Clock.{envOf}
+use Rattle.column.proofs.Runs.{SettlesOnce}
+use Rattle.column.proofs.SoundLaws.{SoundFile}
+
+pub well-formed : (file : List ℕ) → WellFormed (readsAt file) (signalCount (sliceCount file))
+unfolding gateAt
+well-formed file x y l r = fits-reads (sliceCount file) (inputCount file) (gateAt file x) (slice-fits (sliceCount file) (inputCount file) (x / 32) (sliceBody file (x / 32)) (omega arith) (x % 32)) y r
+
+-- the netlist of a file with sound records
+module _ (file : List ℕ) {n m : ℕ} (f : SoundFile file n m) where
+  pub gate-fits : (x : ℕ) → x < signalCount n → GateFits n inputRoom (gateAt file x)
+  unfolding gateAt
+  gate-fits x l =
+      rw (f .count, f .inputs)
+      (fits-more n {m = m} (omega (arith, f .inputs-fit)) _ (slice-fits n m (x / 32) (sliceBody file (x / 32)) (omega arith) (x % 32)))
+
+  pub sound-well-formed : WellFormed (readsAt file) (signalCount n)
+  sound-well-formed = rw (← f .count) (well-formed file)
+
+  -- one gate more in the table
+  pub lower-next :
+      (table : List ℕ) (x : ℕ) → x < signalCount n → length table ≡ 224 * n → Agree (gateOf table n) (gateAt file) x
+      → Agree (gateOf (storeGate table n x (gateAt file x)) n) (gateAt file) (x + 1)
+  lower-next table x l size a y h = by-place (decLt y x)
+    where
+      by-place : Dec (y < x) → gateOf (storeGate table n x (gateAt file x)) n y ≡ gateAt file y
+      by-place (yes before) = kept-gate table n x (gateAt file x) y (λ e. omega arith) ∙ a y before
+      by-place (no late) =
+          let e : y ≡ x = omega arith in
+          rw e (stored-gate table n x (gateAt file x) (omega arith) (gate-fits x l))
+
+pub settles-once : (file : List ℕ) → LoopFree (readsAt file) (signalCount (sliceCount file)) → SettlesOnce file
+settles-once file free st inputs t t′ s s′ = one-settled (gateAt file) (signalCount (sliceCount file)) (well-formed file) free (envOf st inputs) t t′ s s′

@@ -1,0 +1,49 @@
+-- `Judged` determines the verdict. Assumes nothing.
+use mathlib.Core.Path.{_≡_, ap, sym, subst}
+use mathlib.Core.List.{List}
+use Prim.Native.Nat.{ℕ, _<_}
+use native.Mathlib.Decide.{decLt}
+use native.Mathlib.Omega.{arith}
+use Rattle.column.specs.File.{signalCount}
+use Rattle.column.specs.Check.{checkFile}
+use Rattle.column.specs.Judge.{Loop, Judged, bad, accepted, loop}
+use Rattle.column.specs.declared.Checked.{Checked}
+use Rattle.column.specs.declared.Checked.the-variants.{Bad, Sound}
+use Rattle.column.specs.declared.Verdict.{Verdict}
+use Rattle.column.specs.declared.Verdict.the-variants.{Refused, Accepted}
+
+pub sound-not-bad : (c : Checked) {n m k p : ℕ} → c ≡ Sound n m → c ≡ Bad k p → ⊥
+sound-not-bad c e f = let z : _≡_ {A = ℕ} 0 1 = cc in omega arith
+
+same-count : (c : Checked) {n m i j : ℕ} → c ≡ Sound n m → c ≡ Sound i j → n ≡ i
+same-count c e f = cc
+
+same-bad : (c : Checked) {k p i j : ℕ} → c ≡ Bad k p → c ≡ Bad i j → Refused k p ≡ Refused i j
+same-bad c e f = cc
+
+same-sound : (c : Checked) {n m i j : ℕ} → c ≡ Sound n m → c ≡ Sound i j → Accepted n m ≡ Accepted i j
+same-sound c e f = cc
+
+-- the smallest number with a property is one number
+smallest-unique : (P : ℕ → Type 0) {p q : ℕ} → P p → P q → ((x : ℕ) → x < p → P x → ⊥) → ((x : ℕ) → x < q → P x → ⊥) → p ≡ q
+smallest-unique P {p} {q} hp hq np nq = go (decLt p q) (decLt q p)
+  where
+    go : Dec (p < q) → Dec (q < p) → p ≡ q
+    go (yes a) b = absurd (nq p a hp)
+    go (no a) (yes b) = absurd (np q b hq)
+    go (no a) (no b) = omega arith
+
+-- an accepted file has no signal on a loop
+no-signal : (c : Checked) {n m i j p : ℕ} (P : ℕ → Type 0) → c ≡ Sound n m → c ≡ Sound i j → ((x : ℕ) → x < signalCount n → P x → ⊥) → p < signalCount i → P p → ⊥
+no-signal c {n} {m} {i} {j} {p} P e f g b l = g p (subst (λ (k : ℕ). p < signalCount k) (sym (same-count c e f)) b) l
+
+pub judged-unique : (file : List ℕ) {v w : Verdict} → Judged file v → Judged file w → v ≡ w
+judged-unique file (bad e) (bad f) = same-bad (checkFile file) e f
+judged-unique file (bad e) (accepted f g) = absurd (sound-not-bad (checkFile file) f e)
+judged-unique file (bad e) (loop f b l s) = absurd (sound-not-bad (checkFile file) f e)
+judged-unique file (accepted e g) (bad f) = absurd (sound-not-bad (checkFile file) e f)
+judged-unique file (accepted e g) (accepted f h) = same-sound (checkFile file) e f
+judged-unique file (accepted e g) (loop f b l s) = absurd (no-signal (checkFile file) (Loop file) e f g b l)
+judged-unique file (loop e b l s) (bad f) = absurd (sound-not-bad (checkFile file) e f)
+judged-unique file (loop e b l s) (accepted f h) = absurd (no-signal (checkFile file) (Loop file) f e h b l)
+judged-unique file (loop e b l s) (loop f b′ l′ s′) = ap (Refused 9) (smallest-unique (Loop file) l l′ s s′)

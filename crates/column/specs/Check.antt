@@ -1,0 +1,34 @@
+-- Refusals 1 to 8 of a whole file: "the first bad record decides".
+use Prim.Native.Nat.{ℕ, zero, suc, _+_}
+use mathlib.Core.List.{List}
+use lib.Dec.{ltb}
+use lib.ListN.{length, drop}
+use Rattle.slicefile.specs.Format.{sizeTag, sliceTag, endTag, recordLength}
+use Rattle.slicefile.specs.Rules.{given, headerRefusal, sliceRefusal, sizeRefusal}
+use Rattle.column.specs.File.{sliceCount, inputCount, recordStart}
+use Rattle.column.specs.declared.Checked.{Checked}
+use Rattle.column.specs.declared.Checked.the-variants.{Bad, Sound}
+
+-- a refusal other than 0, at its place, or the rest
+abbrev pub firstBad : ℕ → ℕ → Checked → Checked
+firstBad zero place rest = rest
+firstBad (suc k) place rest = Bad (suc k) place
+
+-- the end record at a place, and 8 for bytes after it, at the first of them
+unfoldable pub checkEnd : ℕ → ℕ → ℕ → List ℕ → Checked
+checkEnd n m place s =
+    firstBad (headerRefusal endTag s) place
+    (firstBad (given 8 (ltb (recordLength endTag) (length s))) (place + recordLength endTag) (Sound n m))
+
+-- the slice records from number s on, of which some are left, and the end record
+unfoldable pub checkSlices : ℕ → ℕ → ℕ → ℕ → List ℕ → Checked
+checkSlices n m zero s bytes = checkEnd n m (recordStart s) bytes
+checkSlices n m (suc left) s bytes =
+    let rest = checkSlices n m left (suc s) (drop (recordLength sliceTag) bytes) in
+    firstBad (sliceRefusal n m s bytes) (recordStart s) rest
+
+-- the whole file: the size record first, then the slices it counts
+unfoldable pub checkFile : List ℕ → Checked
+checkFile file =
+    let rest = checkSlices (sliceCount file) (inputCount file) (sliceCount file) 0 (drop (recordStart 0) file) in
+    firstBad (sizeRefusal file) 0 rest

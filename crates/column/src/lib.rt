@@ -1,0 +1,135 @@
+// A whole slice file: its records checked, its netlist, and the judge.
+ghost use mathlib.Core.Path.{_≡_};
+ghost use Prim.Native.Nat.{_*_, _<_, _^_};
+ghost use lib.ListN.{length};
+ghost use Rattle.column.specs.File.{signalCount, gateAt};
+ghost use Rattle.column.specs.Check.{checkEnd, checkFile};
+ghost use Rattle.column.specs.Judge.{Judged};
+ghost use Rattle.column.specs.Compile.{Lowered, Compiled};
+use levels::Sorted;
+use netlist::Gate;
+use netlist::SIGNAL_LIMIT;
+use slicefile::END_TAG;
+use slicefile::HEAD;
+use slicefile::SIZE_RECORD;
+use slicefile::SLICE_BODY;
+use slicefile::SLICE_LIMIT;
+use slicefile::SLICE_RECORD;
+
+// The longest file.
+pub const FILE_LIMIT: usize = SIZE_RECORD + SLICE_RECORD * SLICE_LIMIT + HEAD;
+
+// The numbers of the gate table of a slice, and of the longest file.
+const SLICE_NUMBERS: usize = 224;
+const TABLE_LIMIT: usize = SLICE_NUMBERS * SLICE_LIMIT;
+
+// What the records say of a file: the number and the place of the first bad record, or n and m.
+pub enum Checked {
+    Bad { number: usize, place: usize },
+    Sound { n: usize, m: usize },
+}
+
+// The judge's answer: a refusal's number and place, or the slice count and the outside inputs.
+pub enum Verdict {
+    Refused { number: usize, place: usize },
+    Accepted { n: usize, m: usize },
+}
+
+// The end record at a place of the file, and that nothing follows it.
+fn check_end(n: usize, m: usize, place: usize, s: &[u8]) -> Checked
+    requires { ⌜ place < 2 ^ 32 ⌝ }
+    ensures { λ r. ⌜ r ≡ checkEnd n m place (now (s .entry)) ⌝ }
+{
+    if slicefile::is_end(s) {
+        if HEAD < s.len() {
+            return Checked::Bad {
+                number: 8,
+                place: place + HEAD,
+            };
+        }
+        return Checked::Sound { n, m };
+    }
+    let number = slicefile::header_refusal(END_TAG, s);
+    Checked::Bad { number, place }
+}
+
+// Rules 1 to 8 on a whole file.
+pub fn check_file(file: &[u8]) -> Checked
+    ensures { λ r. ⌜ r ≡ checkFile (now (file .entry)) ⌝ }
+{
+    let h = slicefile::size_refusal(file);
+    if h != 0 {
+        return Checked::Bad { number: h, place: 0 };
+    }
+    let n = file[3] as usize;
+    let m = file[4] as usize;
+    let mut s: usize = 0;
+    let mut at: usize = SIZE_RECORD;
+    while s < n {
+        let r = slicefile::slice_refusal(n, m, s, &file[at..]);
+        if r != 0 {
+            return Checked::Bad { number: r, place: at };
+        }
+        s += 1;
+        at += SLICE_RECORD;
+    }
+    check_end(n, m, at, &file[at..])
+}
+
+// The gate of signal x of a sound file.
+fn signal_gate(file: &[u8], n: usize, m: usize, x: usize) -> Gate
+    requires { ⌜ (checkFile (now file) ≡ Checked.Sound n m) × (x < signalCount n) ⌝ }
+    ensures { λ r. ⌜ r ≡ gateAt (now (file .entry)) x ⌝ }
+{
+    let s = x / 32;
+    let at = SIZE_RECORD + SLICE_RECORD * s + HEAD;
+    series7::gate_at(n, m, s, &file[at..at + SLICE_BODY], x % 32)
+}
+
+// Puts the netlist of a sound file into the gate table.
+fn lower(file: &[u8], n: usize, m: usize, table: &mut [u16])
+    requires { ⌜ (checkFile (now file) ≡ Checked.Sound n m) × (length (now table) ≡ 224 * n) ⌝ }
+    ensures { λ _. ⌜ Lowered (now (file .entry)) n (now (table .exit)) ⌝ }
+{
+    let mut x: usize = 0;
+    while x < 32 * n {
+        let gate = signal_gate(file, n, m, x);
+        netlist::store_gate(table, n, x, gate);
+        x += 1;
+    }
+}
+
+// Lowers a sound file and puts its signals in order, or finds the smallest one on a loop.
+fn compile(file: &[u8], n: usize, m: usize, table: &mut [u16], order: &mut [u16]) -> Sorted
+    requires { ⌜ checkFile (now file) ≡ Checked.Sound n m ⌝ }
+    requires { ⌜ (length (now table) ≡ 224 * n) × (length (now order) ≡ signalCount n) ⌝ }
+    ensures { λ r. ⌜ Compiled (now (file .entry)) n (now (table .exit)) (now (order .exit)) r ⌝ }
+{
+    lower(file, n, m, table);
+    levels::order_or_loop(table, n, order)
+}
+
+// The verdict on a file whose records are sound.
+fn judge_sound(file: &[u8], n: usize, m: usize) -> Verdict
+    requires { ⌜ checkFile (now file) ≡ Checked.Sound n m ⌝ }
+    ensures { λ r. ⌜ Judged (now (file .entry)) r ⌝ }
+{
+    let mut table = [0u16; TABLE_LIMIT];
+    let mut order = [0u16; SIGNAL_LIMIT];
+    let numbers = SLICE_NUMBERS * n;
+    let signals = 32 * n;
+    match compile(file, n, m, &mut table[..numbers], &mut order[..signals]) {
+        Sorted::Loop(place) => Verdict::Refused { number: 9, place },
+        Sorted::Done => Verdict::Accepted { n, m },
+    }
+}
+
+// Judges any bytes.
+pub fn judge(file: &[u8]) -> Verdict
+    ensures { λ r. ⌜ Judged (now (file .entry)) r ⌝ }
+{
+    match check_file(file) {
+        Checked::Bad { number, place } => Verdict::Refused { number, place },
+        Checked::Sound { n, m } => judge_sound(file, n, m),
+    }
+}

@@ -1,0 +1,6 @@
+pub mod Reading
+pub mod Tally
+pub mod Components
+pub mod Moves
+pub mod Opening
+pub mod Answers

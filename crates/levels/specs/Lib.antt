@@ -1,0 +1,4 @@
+pub mod Reading
+pub mod Tally
+pub mod Components
+pub mod Answer

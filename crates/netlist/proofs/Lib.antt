@@ -1,0 +1,12 @@
+pub mod Pigeonhole
+pub mod Order
+pub mod Loops
+pub mod Locality
+pub mod Marks
+pub mod Walk
+pub mod Settling
+pub mod Editing
+pub mod Net
+pub mod Table
+pub mod Fitting
+pub mod Agree

@@ -1,0 +1,6 @@
+pub mod Rule
+pub mod Graph
+pub mod Settle
+pub mod Invariant
+pub mod Table
+pub mod Agree

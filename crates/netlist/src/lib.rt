@@ -1,0 +1,128 @@
+// A netlist of any slice family: what drives a pin, what one signal computes, and the table of numbers that holds the gates.
+ghost use mathlib.Core.Path.{_≡_};
+ghost use mathlib.Core.List.{[], _∷_};
+ghost use Prim.Native.Nat.{ℕ, _+_, _*_, _≤_, _<_};
+ghost use lib.ListN.{length};
+ghost use lib.Seq.{sets};
+ghost use Rattle.netlist.specs.Table.{signalLimit, inputRoom, codeOf, GateFits, storeGate};
+
+// How many signals a netlist may have.
+pub const SIGNAL_LIMIT: usize = 2048;
+
+// What drives a pin. Signal numbers are absolute.
+pub enum Source {
+    Constant(bool),
+    Input(usize),
+    Signal(usize),
+}
+
+// What one signal computes, and from what.
+pub enum Gate {
+    // The contents bit of `table` at the number on p6..p1, p1 lowest.
+    Lut {
+        table: usize,
+        p1: Source,
+        p2: Source,
+        p3: Source,
+        p4: Source,
+        p5: Source,
+        p6: Source,
+    },
+    // Always 0, and counted as reading the table's contents.
+    ZeroOf(usize),
+    // `one` where `select` is 1, `zero` where it is 0.
+    Select {
+        select: Source,
+        one: Source,
+        zero: Source,
+    },
+    Xor(Source, Source),
+    Same(Source),
+    // A flip-flop: bit slot % 8 of flip-flop byte slot / 8.
+    Stored(usize),
+}
+
+// The number that stands for a source in the gate table.
+fn source_code(source: Source) -> u16
+    requires { ⌜ codeOf source < 65536 ⌝ }
+    ensures { λ r. ⌜ r ≡ codeOf source ⌝ }
+{
+    match source {
+        Source::Constant(b) => if b { 1 } else { 0 },
+        Source::Input(j) => (256 + j) as u16,
+        Source::Signal(x) => (4096 + x) as u16,
+    }
+}
+
+// Signal x's head and six sources.
+fn store_numbers(
+    table: &mut [u16],
+    x: usize,
+    head: usize,
+    p1: u16,
+    p2: u16,
+    p3: u16,
+    p4: u16,
+    p5: u16,
+    p6: u16,
+)
+    requires { ⌜ (head < 65536) × (7 * x + 7 ≤ length (now table)) ⌝ }
+    ensures { λ _. ⌜ now (table .exit) ≡ sets (now (table .entry)) (7 * x) (head ∷ p1 ∷ p2 ∷ p3 ∷ p4 ∷ p5 ∷ p6 ∷ []) ⌝ }
+{
+    let at = 7 * x;
+    table[at] = head as u16;
+    table[at + 1] = p1;
+    table[at + 2] = p2;
+    table[at + 3] = p3;
+    table[at + 4] = p4;
+    table[at + 5] = p5;
+    table[at + 6] = p6;
+}
+
+// Puts signal x's gate into the gate table of n slices.
+pub fn store_gate(table: &mut [u16], n: usize, x: usize, gate: Gate)
+    requires { ⌜ (32 * n ≤ signalLimit) × (x < 32 * n) × (length (now table) ≡ 224 * n) ⌝ }
+    requires { ⌜ GateFits n inputRoom gate ⌝ }
+    ensures { λ _. ⌜ now (table .exit) ≡ storeGate (now (table .entry)) n x gate ⌝ }
+{
+    match gate {
+        Gate::Lut {
+            table: t,
+            p1,
+            p2,
+            p3,
+            p4,
+            p5,
+            p6,
+        } => {
+            let a = source_code(p1);
+            let b = source_code(p2);
+            let c = source_code(p3);
+            let d = source_code(p4);
+            let e = source_code(p5);
+            let f = source_code(p6);
+            store_numbers(table, x, t, a, b, c, d, e, f);
+        }
+        Gate::ZeroOf(t) => {
+            store_numbers(table, x, 4 * n + t, 0, 0, 0, 0, 0, 0);
+        }
+        Gate::Select { select, one, zero } => {
+            let a = source_code(select);
+            let b = source_code(one);
+            let c = source_code(zero);
+            store_numbers(table, x, 16 * n, a, b, c, 0, 0, 0);
+        }
+        Gate::Xor(p, q) => {
+            let a = source_code(p);
+            let b = source_code(q);
+            store_numbers(table, x, 16 * n + 1, a, b, 0, 0, 0, 0);
+        }
+        Gate::Same(p) => {
+            let a = source_code(p);
+            store_numbers(table, x, 16 * n + 2, a, 0, 0, 0, 0, 0);
+        }
+        Gate::Stored(slot) => {
+            store_numbers(table, x, 8 * n + slot, 0, 0, 0, 0, 0, 0);
+        }
+    }
+}

@@ -1,0 +1,374 @@
+// The slice of the 7 series as gates: what each of its 32 signals reads, from the body of its record.
+ghost use mathlib.Core.Path.{_≡_};
+ghost use Prim.Native.Nat.{_+_, _*_, _<_, _≤_};
+ghost use lib.ListN.{length};
+ghost use Rattle.slicefile.specs.Format.{carryStart, muxChoice, bypassPin};
+ghost use Rattle.slicefile.specs.Driver.{Within, DecodedWithin};
+ghost use Rattle.series7.specs.Signals.{columnLimit, outputSignal, driverSource, decodedSource, pinSource, own, wideSignal, muxSignal, pinsOf, o6Gate, o5Gate, mc31Gate, startSource, carryIn, carrySource, byBypass, wideGate, familyOf, familyGate, sliceGate};
+use netlist::Gate;
+use netlist::Source;
+use slicefile::Decoded;
+use slicefile::Driver;
+use slicefile::Output;
+use slicefile::decode_driver;
+use slicefile::pair_at;
+
+// The six pins of a look-up table.
+pub struct Pins {
+    pub p1: Source,
+    pub p2: Source,
+    pub p3: Source,
+    pub p4: Source,
+    pub p5: Source,
+    pub p6: Source,
+}
+
+// The eight families of four signals of a slice.
+pub enum Family {
+    O6,
+    O5,
+    Carry,
+    Sum,
+    Wide,
+    Mux,
+    Main,
+    Second,
+}
+
+fn output_signal(k: usize) -> usize
+    requires { ⌜ k < 12 ⌝ }
+    ensures { λ r. ⌜ (r ≡ outputSignal k) × (r < 32) ⌝ }
+{
+    if k < 4 {
+        return k;
+    }
+    k + 16
+}
+
+// The signal that is an output of a slice.
+fn output_source(o: Output) -> Source
+    requires { ⌜ (o .slice < columnLimit) × (o .output < 12) ⌝ }
+    ensures { λ r. ⌜ r ≡ Source.Signal (32 * o .slice + outputSignal (o .output)) ⌝ }
+{
+    let slice = o.slice;
+    let output = o.output;
+    Source::Signal(32 * slice + output_signal(output))
+}
+
+fn driver_source(d: Driver) -> Source
+    requires { ⌜ Within columnLimit d ⌝ }
+    ensures { λ r. ⌜ r ≡ driverSource d ⌝ }
+{
+    match d {
+        Driver::Constant(b) => Source::Constant(b),
+        Driver::Input(j) => Source::Input(j),
+        Driver::Output(o) => output_source(o),
+    }
+}
+
+fn decoded_source(d: Decoded) -> Source
+    requires { ⌜ DecodedWithin columnLimit d ⌝ }
+    ensures { λ r. ⌜ r ≡ decodedSource d ⌝ }
+{
+    match d {
+        Decoded::Driven(v) => driver_source(v),
+        Decoded::Missing => Source::Constant(false),
+    }
+}
+
+// Where pin p of a slice takes its bit from.
+fn pin_source(n: usize, m: usize, body: &[u8], p: usize) -> Source
+    requires { ⌜ (length (now body) ≡ 124) × (p < 31) × (n ≤ columnLimit) ⌝ }
+    ensures { λ r. ⌜ r ≡ pinSource n m (now (body .entry)) p ⌝ }
+{
+    decoded_source(decode_driver(pair_at(body, 62 + 2 * p), n, m))
+}
+
+// Signal k of slice s.
+fn own(s: usize, k: usize) -> Source
+    requires { ⌜ (s < columnLimit) × (k < 32) ⌝ }
+    ensures { λ r. ⌜ r ≡ own s k ⌝ }
+{
+    Source::Signal(32 * s + k)
+}
+
+// Where a slice's carry chain starts.
+fn start_source(n: usize, m: usize, s: usize, body: &[u8]) -> Source
+    requires { ⌜ (length (now body) ≡ 124) × (n ≤ columnLimit) × (s < columnLimit) ⌝ }
+    ensures { λ r. ⌜ r ≡ startSource (carryStart (now (body .entry))) s (pinSource n m (now (body .entry)) (bypassPin 0)) ⌝ }
+{
+    let choice = body[46];
+    if choice == 0 {
+        return Source::Constant(false);
+    }
+    if choice == 1 {
+        return Source::Constant(true);
+    }
+    if choice == 2 {
+        return pin_source(n, m, body, 24);
+    }
+    if s == 0 {
+        return own(0, 11);
+    }
+    own(s - 1, 11)
+}
+
+// The carry coming into a letter.
+fn carry_in(n: usize, m: usize, s: usize, body: &[u8], l: usize) -> Source
+    requires { ⌜ (length (now body) ≡ 124) × (n ≤ columnLimit) × (s < columnLimit) × (l < 4) ⌝ }
+    ensures { λ r. ⌜ r ≡ carryIn n m s (now (body .entry)) l ⌝ }
+{
+    if l == 0 {
+        return start_source(n, m, s, body);
+    }
+    own(s, 7 + l)
+}
+
+// A letter's carry data.
+fn carry_source(n: usize, m: usize, s: usize, body: &[u8], l: usize) -> Source
+    requires { ⌜ (length (now body) ≡ 124) × (n ≤ columnLimit) × (s < columnLimit) × (l < 4) ⌝ }
+    ensures { λ r. ⌜ r ≡ carrySource n m s (now (body .entry)) l ⌝ }
+{
+    if body[42 + l] == 0 {
+        return own(s, 4 + l);
+    }
+    pin_source(n, m, body, 24 + l)
+}
+
+// The six pins of a letter's table.
+fn table_pins(n: usize, m: usize, body: &[u8], l: usize) -> Pins
+    requires { ⌜ (length (now body) ≡ 124) × (n ≤ columnLimit) × (l < 4) ⌝ }
+    ensures { λ r. ⌜ r ≡ pinsOf n m (now (body .entry)) l ⌝ }
+{
+    let p1 = pin_source(n, m, body, 6 * l);
+    let p2 = pin_source(n, m, body, 6 * l + 1);
+    let p3 = pin_source(n, m, body, 6 * l + 2);
+    let p4 = pin_source(n, m, body, 6 * l + 3);
+    let p5 = pin_source(n, m, body, 6 * l + 4);
+    let p6 = pin_source(n, m, body, 6 * l + 5);
+    Pins {
+        p1,
+        p2,
+        p3,
+        p4,
+        p5,
+        p6,
+    }
+}
+
+fn o6_gate(shift: bool, table: usize, p: Pins) -> Gate
+    ensures { λ r. ⌜ r ≡ o6Gate shift table p ⌝ }
+{
+    let p1 = p.p1;
+    let p2 = p.p2;
+    let p3 = p.p3;
+    let p4 = p.p4;
+    let p5 = p.p5;
+    let p6 = p.p6;
+    if shift {
+        return Gate::Lut {
+            table,
+            p1: p2,
+            p2: p3,
+            p3: p4,
+            p4: p5,
+            p5: p6,
+            p6: Source::Constant(false),
+        };
+    }
+    Gate::Lut {
+        table,
+        p1,
+        p2,
+        p3,
+        p4,
+        p5,
+        p6,
+    }
+}
+
+fn o5_gate(shift: bool, table: usize, p: Pins) -> Gate
+    ensures { λ r. ⌜ r ≡ o5Gate shift table p ⌝ }
+{
+    let p1 = p.p1;
+    let p2 = p.p2;
+    let p3 = p.p3;
+    let p4 = p.p4;
+    let p5 = p.p5;
+    if shift {
+        return Gate::ZeroOf(table);
+    }
+    Gate::Lut {
+        table,
+        p1,
+        p2,
+        p3,
+        p4,
+        p5,
+        p6: Source::Constant(false),
+    }
+}
+
+fn mc31_gate(shift: bool, table: usize) -> Gate
+    ensures { λ r. ⌜ r ≡ mc31Gate shift table ⌝ }
+{
+    if shift {
+        let one = Source::Constant(true);
+        return Gate::Lut {
+            table,
+            p1: one,
+            p2: one,
+            p3: one,
+            p4: one,
+            p5: one,
+            p6: Source::Constant(false),
+        };
+    }
+    Gate::ZeroOf(table)
+}
+
+// A multiplexer by a letter's bypass pin.
+fn by_bypass(n: usize, m: usize, s: usize, body: &[u8], l: usize, one: usize, other: usize) -> Gate
+    requires { ⌜ (length (now body) ≡ 124) × (n ≤ columnLimit) × (s < columnLimit) × (l < 4) × (one < 32) × (other < 32) ⌝ }
+    ensures { λ r. ⌜ r ≡ byBypass n m s (now (body .entry)) l one other ⌝ }
+{
+    let select = pin_source(n, m, body, 24 + l);
+    let a = own(s, one);
+    let b = own(s, other);
+    Gate::Select {
+        select,
+        one: a,
+        zero: b,
+    }
+}
+
+// Signals 16 to 19.
+fn wide_gate(n: usize, m: usize, s: usize, body: &[u8], i: usize) -> Gate
+    requires { ⌜ (length (now body) ≡ 124) × (n ≤ columnLimit) × (s < columnLimit) ⌝ }
+    ensures { λ r. ⌜ r ≡ wideGate n m s (now (body .entry)) i ⌝ }
+{
+    if i == 0 {
+        return by_bypass(n, m, s, body, 0, 0, 1);
+    }
+    if i == 1 {
+        return by_bypass(n, m, s, body, 2, 2, 3);
+    }
+    if i == 2 {
+        return by_bypass(n, m, s, body, 1, 16, 17);
+    }
+    mc31_gate(body[2] == 2, 4 * s)
+}
+
+// The family of signal k of a slice.
+fn family_of(k: usize) -> Family
+    ensures { λ r. ⌜ r ≡ familyOf k ⌝ }
+{
+    if k < 4 {
+        return Family::O6;
+    }
+    if k < 8 {
+        return Family::O5;
+    }
+    if k < 12 {
+        return Family::Carry;
+    }
+    if k < 16 {
+        return Family::Sum;
+    }
+    if k < 20 {
+        return Family::Wide;
+    }
+    if k < 24 {
+        return Family::Mux;
+    }
+    if k < 28 {
+        return Family::Main;
+    }
+    Family::Second
+}
+
+// The gate of a letter's signal in a family.
+fn family_gate(n: usize, m: usize, s: usize, body: &[u8], f: Family, l: usize) -> Gate
+    requires { ⌜ (length (now body) ≡ 124) × (n ≤ columnLimit) × (s < columnLimit) × (l < 4) ⌝ }
+    ensures { λ r. ⌜ r ≡ familyGate n m s (now (body .entry)) f l ⌝ }
+{
+    match f {
+        Family::O6 => o6_gate(body[2 + l] == 2, 4 * s + l, table_pins(n, m, body, l)),
+        Family::O5 => o5_gate(body[2 + l] == 2, 4 * s + l, table_pins(n, m, body, l)),
+        Family::Carry => carry_gate(n, m, s, body, l),
+        Family::Sum => sum_gate(n, m, s, body, l),
+        Family::Wide => wide_gate(n, m, s, body, l),
+        Family::Mux => mux_gate(s, body, l),
+        Family::Main => Gate::Stored(8 * s + l),
+        Family::Second => Gate::Stored(8 * s + 4 + l),
+    }
+}
+
+fn carry_gate(n: usize, m: usize, s: usize, body: &[u8], l: usize) -> Gate
+    requires { ⌜ (length (now body) ≡ 124) × (n ≤ columnLimit) × (s < columnLimit) × (l < 4) ⌝ }
+    ensures { λ r. ⌜ r ≡ familyGate n m s (now (body .entry)) Family.Carry l ⌝ }
+{
+    let select = own(s, l);
+    let one = carry_in(n, m, s, body, l);
+    let zero = carry_source(n, m, s, body, l);
+    Gate::Select { select, one, zero }
+}
+
+fn sum_gate(n: usize, m: usize, s: usize, body: &[u8], l: usize) -> Gate
+    requires { ⌜ (length (now body) ≡ 124) × (n ≤ columnLimit) × (s < columnLimit) × (l < 4) ⌝ }
+    ensures { λ r. ⌜ r ≡ familyGate n m s (now (body .entry)) Family.Sum l ⌝ }
+{
+    let a = own(s, l);
+    let b = carry_in(n, m, s, body, l);
+    Gate::Xor(a, b)
+}
+
+fn wide_signal(l: usize) -> usize
+    ensures { λ r. ⌜ (r ≡ wideSignal l) × (r < 32) ⌝ }
+{
+    if l == 0 {
+        return 16;
+    }
+    if l == 1 {
+        return 18;
+    }
+    if l == 2 {
+        return 17;
+    }
+    19
+}
+
+fn mux_signal(l: usize, choice: u8) -> usize
+    requires { ⌜ l < 4 ⌝ }
+    ensures { λ r. ⌜ (r ≡ muxSignal l choice) × (r < 32) ⌝ }
+{
+    if choice == 0 {
+        return 4 + l;
+    }
+    if choice == 1 {
+        return 12 + l;
+    }
+    if choice == 2 {
+        return 8 + l;
+    }
+    if choice == 3 {
+        return wide_signal(l);
+    }
+    28 + l
+}
+
+fn mux_gate(s: usize, body: &[u8], l: usize) -> Gate
+    requires { ⌜ (length (now body) ≡ 124) × (s < columnLimit) × (l < 4) ⌝ }
+    ensures { λ r. ⌜ r ≡ Gate.Same (own s (muxSignal l (muxChoice (now (body .entry)) l))) ⌝ }
+{
+    let k = mux_signal(l, body[47 + l]);
+    Gate::Same(own(s, k))
+}
+
+// The gate of signal k of slice s, whose record has that body, in a file of n slices and m outside inputs.
+pub fn gate_at(n: usize, m: usize, s: usize, body: &[u8], k: usize) -> Gate
+    requires { ⌜ (length (now body) ≡ 124) × (n ≤ columnLimit) × (s < n) × (k < 32) ⌝ }
+    ensures { λ r. ⌜ r ≡ sliceGate n m s (now (body .entry)) k ⌝ }
+{
+    family_gate(n, m, s, body, family_of(k), k % 4)
+}

@@ -1,0 +1,41 @@
+-- What a driver that exists tells. Assumes nothing.
+use mathlib.Core.Bool.{Bool, true, false, cond, _&&_}
+use Prim.Native.Nat.{ℕ, _-_, _/_, _%_, _<_, _≤_}
+use native.Mathlib.Omega.{arith}
+use lib.Dec.{ltb, eqb, ltb→lt, T}
+use Rattle.slicefile.specs.Driver.{DecodedWithin, driverOf}
+use Rattle.slicefile.specs.declared.Output.{Output}
+use Rattle.slicefile.specs.declared.Driver.the-variants as driver
+use Rattle.slicefile.specs.declared.Decoded.{Decoded}
+use Rattle.slicefile.specs.declared.Decoded.the-variants.{Driven, Missing}
+use Rattle.slicefile.proofs.Tests.{and-left, and-right}
+
+-- a choice has a property that both sides have; the first side may use that the test passed
+by-test : (P : Decoded → Type 0) (t : Bool) (a b : Decoded) → (T t → P a) → P b → P (cond t a b)
+by-test P true a b f g = f tt
+by-test P false a b f g = g
+
+-- what holds of no driver, of each constant, of each outside input below m, and of each of the twelve outputs of a slice below n holds of
+-- what a code names
+pub driver-cases : (P : Decoded → Type 0) (code n m : ℕ) → P Missing → ((b : Bool) → P (Driven (driver.Constant b)))
+    → ((j : ℕ) → j < m → P (Driven (driver.Input j)))
+    → ((o : Output) → o .slice < n → o .output < 12 → P (Driven (driver.Output o)))
+    → P (driverOf code n m)
+unfolding driverOf
+driver-cases P code n m none constant input output =
+    let here = ltb ((code - 4096) / 16) n in
+    let one = ltb (code % 16) 12 in
+    by-test P (ltb code 2) _ _ (λ t. constant (eqb code 1))
+    (by-test P (ltb code 256) _ _ (λ t. none)
+    (by-test P (ltb code 4096) _ _ (λ t. by-test P (ltb (code - 256) m) _ _ (λ u. input (code - 256) (ltb→lt _ _ u)) none)
+    (by-test P (here && one) _ _ (λ t. output _ (ltb→lt _ _ (and-left here one t)) (ltb→lt _ _ (and-right here one t))) none)))
+
+pub decoded-within : (code n m : ℕ) → DecodedWithin n (driverOf code n m)
+decoded-within code n m = driver-cases (DecodedWithin n) code n m tt (λ b. tt) (λ j h. tt) (λ o h k. (h, k))
+
+-- a smaller column's driver is a larger one's
+pub within-more : {n k : ℕ} → n ≤ k → (d : Decoded) → DecodedWithin n d → DecodedWithin k d
+within-more h (Driven (driver.Constant b)) w = tt
+within-more h (Driven (driver.Input j)) w = tt
+within-more h (Driven (driver.Output o)) w = (omega arith, w .1)
+within-more h Missing w = tt

@@ -1,0 +1,4 @@
+pub mod Lists
+pub mod Format
+pub mod Driver
+pub mod Rules

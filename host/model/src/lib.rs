@@ -1,0 +1,56 @@
+//! An independent second judge of slice files, written from the paper alone
+//! (papers/01-scope.md) and plain rather than fast. The proved program is
+//! compared with it.
+
+pub mod check;
+pub mod design;
+pub mod graph;
+pub mod layout;
+pub mod rules;
+
+use std::fmt;
+
+pub use check::check;
+pub use design::Design;
+pub use rules::Rules;
+
+/// The answer to a file.
+#[derive(Clone, Copy, Debug, PartialEq, Eq)]
+pub enum Verdict {
+    Accepted { n: usize, m: usize },
+    Refused { number: u8, place: usize },
+}
+
+/// The line that the program writes, without its newline.
+impl fmt::Display for Verdict {
+    fn fmt(&self, out: &mut fmt::Formatter) -> fmt::Result {
+        match self {
+            Verdict::Accepted { n, m } => write!(out, "accepted {n} {m}"),
+            Verdict::Refused { number, place } => write!(out, "refused {number} {place}"),
+        }
+    }
+}
+
+/// Judges a file by the paper.
+pub fn judge(file: &[u8]) -> Verdict {
+    judge_by(&Rules::paper(), file)
+}
+
+/// Judges a file by other rules than the paper's, for tests that have to fail.
+pub fn judge_by(rules: &Rules, file: &[u8]) -> Verdict {
+    match check(rules, file) {
+        Err(refused) => refused,
+        Ok((n, m)) => judge_loops(n, m, &Design::decode(rules, file, n, m).graph()),
+    }
+}
+
+/// The verdict on a file that passed refusals 1 to 8, by its graph of reads.
+pub fn judge_loops(n: usize, m: usize, graph: &[Vec<usize>]) -> Verdict {
+    match graph::smallest_on_loop(graph) {
+        Some(signal) => Verdict::Refused {
+            number: 9,
+            place: signal,
+        },
+        None => Verdict::Accepted { n, m },
+    }
+}
