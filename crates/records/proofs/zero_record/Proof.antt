@@ -1,0 +1,12 @@
+-- `records::zero_record` meets its contract: the fields of zero bytes are zeros, by computation. Assumes nothing.
+use mathlib.Core.Path.{refl}
+use Rattle.records.specs.Record.{recordOf, zeroRecord, tabulate}
+use Rattle.records.proofs.zero_record.Statement.{statement}
+use Rattle.records.proofs.zero_record.Tie as tie
+
+returns : tie.Need-returns
+unfolding zeroRecord recordOf tabulate
+returns c = refl
+
+pub zero-record-spec : {M : Type 1} → statement M
+zero-record-spec = tie.close (tie.spec returns)

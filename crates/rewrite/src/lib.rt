@@ -1,0 +1,59 @@
+// A file read and written again, record by record: the writer is lent the part after what is written already.
+ghost use mathlib.Core.Path.{_≡_};
+ghost use mathlib.Core.List.{_++_};
+ghost use Prim.Native.Nat.{_≤_};
+ghost use lib.ListN.{length, drop};
+ghost use Rattle.slicefile.specs.Format.{sliceTag, recordLength};
+ghost use Rattle.records.specs.Calls.{readRefusal};
+ghost use Rattle.column.specs.Check.{checkFile};
+ghost use Rattle.rewrite.specs.Rewrite.{leftBy, rewritten};
+use column::Checked;
+use records::Answer;
+use slicefile::END;
+use slicefile::SIZE_RECORD;
+use slicefile::SLICE_RECORD;
+
+// Reads a slice record and writes it at the start of a part.
+fn put_slice(bytes: &[u8], n: usize, m: usize, part: &mut [u8])
+    requires { ⌜ (readRefusal (now bytes) n m ≡ 0) × (recordLength sliceTag ≤ length (now part)) ⌝ }
+    ensures { λ _. ⌜ now (part .exit) ≡ now (bytes .entry) ++ drop (recordLength sliceTag) (now (part .entry)) ⌝ }
+{
+    let reading = records::read_record(bytes, n, m);
+    let slice = reading.slice;
+    records::write_record(slice, n, m, part);
+}
+
+// Rewrites the records of a sound file into a buffer of its length.
+fn put_records(file: &[u8], n: usize, m: usize, out: &mut [u8])
+    requires { ⌜ (checkFile (now file) ≡ Checked.Sound n m) × (length (now out) ≡ length (now file)) ⌝ }
+    ensures { λ _. ⌜ now (out .exit) ≡ now (file .entry) ⌝ }
+{
+    records::put_bytes(out, 0, &[1, 2, 0, n as u8, m as u8]);
+    let mut s: usize = 0;
+    let mut at: usize = SIZE_RECORD;
+    while s < n {
+        put_slice(&file[at..at + SLICE_RECORD], n, m, &mut out[at..]);
+        s += 1;
+        at += SLICE_RECORD;
+    }
+    records::put_bytes(out, at, &END);
+}
+
+// Rewrites a file into a lent buffer of its length. A refusal writes nothing.
+pub fn rewrite_file(file: &[u8], out: &mut [u8]) -> Answer
+    ensures { λ r. ⌜ (r ≡ rewritten (now (file .entry)) (now (out .entry))) × (now (out .exit) ≡ leftBy r (now (file .entry)) (now (out .entry))) ⌝ }
+{
+    match column::check_file(file) {
+        Checked::Bad { number, place } => Answer::Refused { number, place },
+        Checked::Sound { n, m } => {
+            if out.len() != file.len() {
+                return Answer::Refused {
+                    number: 10,
+                    place: 0,
+                };
+            }
+            put_records(file, n, m, out);
+            Answer::Done
+        }
+    }
+}
