@@ -1,10 +1,10 @@
 -- The check of a file goes by its first bytes: a refusal other than 1 stays whatever follows, a sound file with bytes after it is refused 8
 -- at the first of them, and 1 is given only to a file shorter than the longest. So the first 8,137 bytes decide. Assumes nothing.
-use mathlib.Core.Path.{_≡_, _∙_, refl, sym, ap, subst, subst⁻¹}
+use mathlib.Core.Path.{_≡_, _∙_, refl, sym, ap, subst}
 use mathlib.Core.Logic.{_⊎_, inl, inr, ⊎-elim}
 use mathlib.Core.Bool.{Bool, true, false}
 use mathlib.Core.List.{List, _++_}
-use Prim.Native.Nat.{ℕ, zero, suc, _+_, _*_, _≤_, _<_}
+use Prim.Native.Nat.{ℕ, zero, suc, _+_, _*_, _<_}
 use native.Mathlib.Decide.{decLt}
 use native.Mathlib.Omega.{arith}
 use borrow.Author.Tests.{lt-ltb, ltb-true}
@@ -12,7 +12,7 @@ use lib.Dec.{ltb}
 use native.Mathlib.Nat.{zero-add, add-zero}
 use lib.ListN.{length, take, drop, length-append, length-drop, length-take, take-append-drop, List·getD-append}
 use lib.Seq.{take-all, drop-append-le}
-use Rattle.slicefile.specs.Format.{sliceLimit, sliceTag, endTag, recordLength}
+use Rattle.slicefile.specs.Format.{sliceTag, endTag, recordLength}
 use Rattle.slicefile.specs.Rules.{given, headerRefusal, sliceRefusal, sizeRefusal}
 use Rattle.slicefile.proofs.RecordLaws.{header-whole, slice-whole, size-whole, size-tells}
 use Rattle.slicefile.proofs.PrefixLaws.{header-stays, header-cut, slice-stays, slice-cut, size-stays, size-cut}

@@ -14,7 +14,7 @@ use Rattle.slicefile.proofs.RecordLaws.{given-none, header-whole, slice-whole, 
 use Rattle.column.specs.File.{sliceCount, inputCount, recordStart, fileLength, sliceBody}
 use Rattle.column.specs.Check.{firstBad, checkEnd, checkSlices, checkFile}
 use Rattle.column.specs.declared.Checked.{Checked}
-use Rattle.column.specs.declared.Checked.the-variants.{Bad, Sound}
+use Rattle.column.specs.declared.Checked.the-variants.{Sound}
 
 pub sound-first : (k place : ℕ) (rest : Checked) {n m : ℕ} → firstBad k place rest ≡ Sound n m → (k ≡ 0) × (rest ≡ Sound n m)
 sound-first zero place rest e = (refl, e)

@@ -3,13 +3,13 @@
 use mathlib.Core.Path.{_≡_, _∙_, ap, ap₂, sym, subst}
 use mathlib.Core.Bool.{Bool, true, false, not, _&&_}
 use mathlib.Core.List.{List, [], _∷_, _++_}
-use Prim.Native.Nat.{ℕ, zero, suc, _*_, _<_, _≤_}
+use Prim.Native.Nat.{ℕ, zero, suc}
 use native.Mathlib.Omega.{arith}
 use lib.Dec.{T, ltb, eqb, eqb→eq, ltb→lt, T-not}
 use lib.ListN.{length, getD, set, replicate}
 use Rattle.netlist.specs.Graph.{LoopFree}
 use Rattle.netlist.specs.Rule.{applyGate, ruleOf, sourcesOf, signalsIn, readsOf, valueOf}
-use Rattle.slicefile.specs.Lists.{anyBelow}
+use Rattle.slicefile.specs.Lists.{anyBelow, tabulate}
 use Rattle.slicefile.specs.Driver.{driverOf}
 use Rattle.slicefile.specs.Rules.{headerRefusal, badSize, letterChoice, badChoice, letterCombination, badCombination, badDriver, bodyRefusal, sliceRefusal, sizeRefusal}
 use Rattle.slicefile.proofs.Tests.{and-left, and-right}
@@ -18,7 +18,7 @@ use Rattle.series7.specs.Edge.{mainSource, secondSource, nextBit, nextFlops, wr
 use Rattle.column.specs.File.{sliceCount, sliceBody, signalCount, gateAt}
 use Rattle.column.specs.Check.{checkEnd, checkSlices, checkFile}
 use Rattle.column.specs.Judge.{readsAt, Judged, bad, accepted, loop}
-use Rattle.column.specs.Clock.{State, envOf, tabulate, powerUp, clocked, SettledFor, Run}
+use Rattle.column.specs.Clock.{State, envOf, powerUp, clocked, SettledFor, Run}
 use Rattle.column.specs.Cases.{fileOf, Outcome, Judgement, Ones, After, Row, onesAt, names, noInputs, LeavesWord, Gives, Holds, cases, upFrom}
 use Rattle.column.specs.declared.Checked.{Checked}
 use Rattle.column.specs.declared.Checked.the-variants.{Bad, Sound}

@@ -1,14 +1,15 @@
 -- The worked cases 1 to 10, as edits of the base file Z, each with what it must give.
 use mathlib.Core.Path.{_≡_}
 use mathlib.Core.Bool.{Bool, false, _||_}
-use Prim.Native.Nat.{ℕ, suc, _+_, _*_, _/_, _%_}
+use Prim.Native.Nat.{ℕ, _+_, _/_, _%_}
 use mathlib.Core.List.{List, [], _∷_, _++_}
 use lib.Dec.{eqb}
 use lib.ListN.{getD, replicate}
 use lib.Seq.{sets}
 use Rattle.netlist.specs.Rule.{bit}
 use Rattle.column.specs.Judge.{Judged}
-use Rattle.column.specs.Clock.{tabulate, powerUp, SettledFor, Run}
+use Rattle.slicefile.specs.Lists.{tabulate}
+use Rattle.column.specs.Clock.{powerUp, SettledFor, Run}
 use Rattle.column.specs.declared.Verdict.{Verdict}
 use Rattle.column.specs.declared.Verdict.the-variants.{Refused, Accepted}
 

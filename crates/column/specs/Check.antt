@@ -3,7 +3,7 @@ use Prim.Native.Nat.{ℕ, zero, suc, _+_}
 use mathlib.Core.List.{List}
 use lib.Dec.{ltb}
 use lib.ListN.{length, drop}
-use Rattle.slicefile.specs.Format.{sizeTag, sliceTag, endTag, recordLength}
+use Rattle.slicefile.specs.Format.{sliceTag, endTag, recordLength}
 use Rattle.slicefile.specs.Rules.{given, headerRefusal, sliceRefusal, sizeRefusal}
 use Rattle.column.specs.File.{sliceCount, inputCount, recordStart}
 use Rattle.column.specs.declared.Checked.{Checked}

@@ -1,11 +1,12 @@
 -- A file's state at power-up, after one clock, and over a run of clocks.
-use Prim.Native.Nat.{ℕ, zero, suc, _+_, _*_, _/_, _%_, _<_}
+use Prim.Native.Nat.{ℕ, suc, _+_, _*_, _/_, _%_, _<_}
 use mathlib.Core.Path.{_≡_}
-use mathlib.Core.List.{List, [], _∷_}
+use mathlib.Core.List.{List}
 use lib.ListN.{getD}
 use Rattle.netlist.specs.Rule.{Env, env, valueOf}
 use Rattle.netlist.specs.Settle.{Settled}
 use Rattle.netlist.specs.declared.Source.{Source}
+use Rattle.slicefile.specs.Lists.{tabulate}
 use Rattle.slicefile.specs.Format.{contentsWord, powerUpBits}
 use Rattle.series7.specs.Edge.{nextFlops, nextWord}
 use Rattle.column.specs.File.{sliceCount, inputCount, sliceBody, signalCount, gateAt}
@@ -18,11 +19,6 @@ pub record State : Type 0 where
 -- what the rules take besides the value table: the state and the outside inputs
 abbrev pub envOf : State → List ℕ → Env
 envOf st inputs = env (st .contents) (st .flops) inputs
-
--- the values of f at the k numbers from i
-unfoldable pub tabulate : ℕ → ℕ → (ℕ → ℕ) → List ℕ
-tabulate i zero f = []
-tabulate i (suc k) f = f i ∷ tabulate (suc i) k f
 
 -- "power up (fills contents and flip-flops)"
 unfoldable pub powerUp : List ℕ → State

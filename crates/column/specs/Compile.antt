@@ -1,5 +1,5 @@
 -- A file compiled: its netlist in the gate table, and the answer of the search for loops.
-use Prim.Native.Nat.{ℕ, _*_}
+use Prim.Native.Nat.{ℕ}
 use mathlib.Core.List.{List}
 use Rattle.netlist.specs.Agree.{Agree}
 use Rattle.levels.specs.Answer.{OrderOrLoop}

@@ -1,6 +1,6 @@
 // One path-based search for strongly connected components over a gate table, with no recursion.
 ghost use mathlib.Core.Path.{_≡_};
-ghost use Prim.Native.Nat.{ℕ, _+_, _*_, _-_, _≤_, _<_};
+ghost use Prim.Native.Nat.{_+_, _*_, _-_, _≤_, _<_};
 ghost use lib.ListN.{length, getD};
 ghost use Rattle.netlist.specs.Graph.{WellFormed};
 ghost use Rattle.netlist.specs.Settle.{readsIn};
@@ -273,7 +273,7 @@ fn scan_step(
 }
 
 // The smallest signal on a loop, or the number of signals and a topological order, by a search from marks that are all zero.
-pub fn scan_all(
+fn scan_all(
     table: &[u16],
     n: usize,
     marks: &mut [u8],

@@ -5,7 +5,7 @@ use Prim.Native.Nat.{ℕ, _<_}
 use lib.ListN.{getD}
 use Rattle.netlist.specs.declared.Gate.{Gate}
 use Rattle.netlist.specs.Rule.{Env, ruleOf, readsOf}
-use Rattle.netlist.specs.Graph.{Reads, Depends, Loop, LoopFree, WellFormed, Ordered}
+use Rattle.netlist.specs.Graph.{Reads, Depends, Loop, WellFormed, Ordered}
 use Rattle.netlist.specs.Graph.Depends.{direct, through}
 use Rattle.netlist.specs.Settle.{readsIn, Settled}
 use Rattle.netlist.specs.Agree.{Agree}
@@ -40,10 +40,3 @@ module _ (g h : ℕ → Gate) (N : ℕ) (a : Agree g h N) where
 
     pub loop-agree : {x : ℕ} → x < N → Loop (readsIn g) x → Loop (readsIn h) x
     loop-agree l d = depends-agree l d
-
-module _ (g h : ℕ → Gate) (N : ℕ) (a : Agree g h N) (wf : WellFormed (readsIn g) N) where
-  back : {x : ℕ} → x < N → Loop (readsIn h) x → Loop (readsIn g) x
-  back = loop-agree h g N (agree-sym a) (well-formed-agree g h N a wf)
-
-  pub loop-free-agree : LoopFree (readsIn g) N → LoopFree (readsIn h) N
-  loop-free-agree free x l d = free x l (back l d)

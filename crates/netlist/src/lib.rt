@@ -1,7 +1,7 @@
 // A netlist of any slice family: what drives a pin, what one signal computes, and the table of numbers that holds the gates.
 ghost use mathlib.Core.Path.{_≡_};
 ghost use mathlib.Core.List.{[], _∷_};
-ghost use Prim.Native.Nat.{ℕ, _+_, _*_, _≤_, _<_};
+ghost use Prim.Native.Nat.{_+_, _*_, _≤_, _<_};
 ghost use lib.ListN.{length};
 ghost use lib.Seq.{sets};
 ghost use Rattle.netlist.specs.Table.{signalLimit, inputRoom, codeOf, GateFits, storeGate};

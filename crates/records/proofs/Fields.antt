@@ -6,9 +6,9 @@ use native.Mathlib.Nat.{add-zero, mul-zero, mul-suc}
 use native.Mathlib.Omega.{arith}
 use lib.ListN.{length, getD, take, drop, length-append}
 use lib.Seq.{drop-drop, drop-at, take-at, take-all, getD-drop}
-use Rattle.slicefile.specs.Lists.{digits}
+use Rattle.slicefile.specs.Lists.{digits, tabulate}
 use Rattle.slicefile.specs.Format.{pinCount, byteAt, contentsWord, pinCode}
-use Rattle.records.specs.Record.{letters, tabulate, bytesOf, allBytes, Below}
+use Rattle.records.specs.Record.{letters, bytesOf, allBytes, Below}
 use Rattle.records.proofs.Stores.{length-bytesOf}
 use Rattle.records.proofs.Digits.{digits-bytesOf}
 use Rattle.records.proofs.Pieces.{piece, letters-take, letters-drop, pair-piece}

@@ -7,9 +7,9 @@ use native.Mathlib.Omega.{arith}
 use lib.Dec.{lit<}
 use lib.ListN.{length, take, drop, length-drop}
 use lib.Seq.{take-add, drop-drop, getD-drop, length-take-le, drop-cons}
-use Rattle.slicefile.specs.Lists.{digits}
+use Rattle.slicefile.specs.Lists.{digits, tabulate}
 use Rattle.slicefile.specs.Format.{byteAt, pairAt, contentsWord}
-use Rattle.records.specs.Record.{letters, tabulate, bytesOf, allBytes, Below}
+use Rattle.records.specs.Record.{letters, bytesOf, allBytes, Below}
 use Rattle.records.proofs.Digits.{bytesOf-digits}
 
 -- the k bytes of s from offset a on

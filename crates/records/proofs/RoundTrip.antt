@@ -11,7 +11,8 @@ use lib.Seq.{take-all, take-at, length-take-le}
 use Rattle.slicefile.specs.Format.{sliceTag, bodyLength, recordLength, bodyOf, byteAt}
 use Rattle.slicefile.specs.Rules.{given, _orElse_, headerRefusal, badSize}
 use Rattle.slicefile.proofs.RecordLaws.{orElse-left, orElse-right, given-none, header-tells}
-use Rattle.records.specs.Record.{allBytes, recordOf, tabulate, zeroRecord, bodyBytes, recordBytes, Below, Typed}
+use Rattle.slicefile.specs.Lists.{tabulate}
+use Rattle.records.specs.Record.{allBytes, recordOf, zeroRecord, bodyBytes, recordBytes, Below, Typed}
 use Rattle.records.specs.Calls.{recordRefusal, readRefusal, writeRefusal, readRecord, written}
 use Rattle.records.specs.declared.Record.{Record}
 use Rattle.records.specs.declared.Answer.the-variants.{Done}

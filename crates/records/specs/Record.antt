@@ -3,17 +3,13 @@ use Prim.Native.Nat.{ℕ, zero, suc, _/_, _%_, _^_, _<_}
 use mathlib.Core.Path.{_≡_}
 use mathlib.Core.List.{List, [], _∷_, _++_}
 use lib.ListN.{length, getD, replicate}
+use Rattle.slicefile.specs.Lists.{tabulate}
 use Rattle.slicefile.specs.Format.{numberByte, kind, mode, shiftData, contentsWord, carryData, carryStart, muxChoice, mainInput, secondInput, powerUpBits, setResetValues, setResetUsed, pinCount, pinCode, sliceTag, bodyLength}
 use Rattle.records.specs.declared.Record.{Record}
 
 -- a field of the four letters
 abbrev pub letters : (ℕ → ℕ) → List ℕ
 letters f = f 0 ∷ f 1 ∷ f 2 ∷ f 3 ∷ []
-
--- the values of f at the k numbers from i
-unfoldable pub tabulate : ℕ → ℕ → (ℕ → ℕ) → List ℕ
-tabulate i zero f = []
-tabulate i (suc k) f = f i ∷ tabulate (suc i) k f
 
 -- the record that a slice's body holds
 unfoldable pub recordOf : List ℕ → Record

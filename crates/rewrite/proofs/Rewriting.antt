@@ -1,16 +1,16 @@
 -- A file rewritten so far: the buffer has the file's first bytes, and each record put behind them is the file's own. Assumes nothing.
 use mathlib.Core.Path.{_≡_, _∙_, refl, sym, ap}
-use mathlib.Core.Bool.{Bool, true, false, not}
+use mathlib.Core.Bool.{false, not}
 use mathlib.Core.List.{List, [], _∷_, _++_, append-assoc}
 use Prim.Native.Nat.{ℕ, _+_, _-_, _%_, _≤_, _<_}
 use native.Mathlib.Nat.{add-sub-cancel-left}
 use native.Mathlib.Omega.{arith}
 use borrow.Author.Tests.{eqb-true, not-false, lt-ltb}
-use lib.Dec.{ltb, eqb}
-use lib.ListN.{length, getD, take, drop, length-drop, take-append-drop}
+use lib.Dec.{eqb}
+use lib.ListN.{length, take, drop, length-drop, take-append-drop}
 use lib.Seq.{sets, length-sets, sets-eq, take-all, take-add, take-at, take-append-add, length-take-le}
 use Rattle.slicefile.specs.Format.{sizeTag, sliceTag, endTag, recordLength, endRecord, byteAt, bodyOf, numberByte}
-use Rattle.slicefile.specs.Rules.{given, _orElse_, headerRefusal, badSize, bodyRefusal, sliceRefusal, sizeRefusal}
+use Rattle.slicefile.specs.Rules.{given, headerRefusal, badSize, bodyRefusal, sliceRefusal, sizeRefusal}
 use Rattle.slicefile.proofs.RecordLaws.{orElse-left, orElse-right, given-none, header-tells}
 use Rattle.slicefile.proofs.EndLaws.{end-bytes}
 use Rattle.slicefile.proofs.PrefixLaws.{slice-stays, slice-cut}

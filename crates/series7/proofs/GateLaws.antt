@@ -1,7 +1,7 @@
 -- A slice's gates fit the column: the tables, slots, outside inputs and signals that they name are there. Assumes nothing.
 use mathlib.Core.Bool.{Bool, true, false, cond}
 use mathlib.Core.List.{List}
-use Prim.Native.Nat.{ℕ, _+_, _-_, _*_, _%_, _<_}
+use Prim.Native.Nat.{ℕ, _+_, _*_, _%_, _<_}
 use native.Mathlib.Omega.{arith}
 use lib.Dec.{ltb, eqb, lit<}
 use Rattle.netlist.specs.Table.{SourceFits, GateFits}

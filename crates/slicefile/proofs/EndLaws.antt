@@ -1,13 +1,12 @@
 -- The end record is the three bytes 03 00 00: a header that is due an end record is not refused exactly when they begin the list. Assumes nothing.
-use mathlib.Core.Path.{_≡_, refl, sym, ap, _∙_}
+use mathlib.Core.Path.{_≡_, refl, _∙_}
 use mathlib.Core.Bool.{_&&_}
 use mathlib.Core.List.{List, [], _∷_}
-use Prim.Native.Nat.{ℕ, _+_, _*_, _≤_, _<_}
+use Prim.Native.Nat.{ℕ, _+_, _*_, _≤_}
 use native.Mathlib.Omega.{arith}
 use borrow.Author.Tests.{eq-eqb, eqb-true, le-ltb}
-use lib.Dec.{eqb, lit<}
-use lib.ListN.{length, take, length-take}
-use lib.Seq.{getD-take}
+use lib.Dec.{eqb}
+use lib.ListN.{length, take}
 use Rattle.slicefile.specs.Format.{endTag, headLength, endRecord, byteAt}
 use Rattle.slicefile.specs.Rules.{headerRefusal}
 use Rattle.slicefile.proofs.Tests.{both, same-test}
@@ -56,12 +55,3 @@ pub end-bytes : (s : List ℕ) → headerRefusal endTag s ≡ 0 → take headLen
 end-bytes s e =
     let d : Ends s = header-ends s e in
     first-three s (d .room) ∙ simp (d .first, d .second, d .third)
-
-pub end-header : (s : List ℕ) → take headLength s ≡ endRecord → headerRefusal endTag s ≡ 0
-end-header s e =
-    ends-header s (record {
-      room = omega (arith, ap length e, length-take headLength s);
-      first = sym (getD-take 3 s 0 0 (lit< tt)) ∙ ap (λ (l : List ℕ). byteAt l 0) e;
-      second = sym (getD-take 3 s 1 0 (lit< tt)) ∙ ap (λ (l : List ℕ). byteAt l 1) e;
-      third = sym (getD-take 3 s 2 0 (lit< tt)) ∙ ap (λ (l : List ℕ). byteAt l 2) e;
-    })

@@ -12,3 +12,8 @@ anyBelow (suc k) f = f k || anyBelow k f
 abbrev pub digits : ℕ → List ℕ → ℕ
 digits base [] = 0
 digits base (d ∷ ds) = d + base * digits base ds
+
+-- the values of f at the k numbers from i
+unfoldable pub tabulate : ℕ → ℕ → (ℕ → ℕ) → List ℕ
+tabulate i zero f = []
+tabulate i (suc k) f = f i ∷ tabulate (suc i) k f

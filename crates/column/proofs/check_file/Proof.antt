@@ -1,11 +1,10 @@
 -- `column::check_file` meets its contract. The loop's invariant: the records before slice s are good, so those from s on decide. Assumes nothing.
 use mathlib.Core.Path.{_≡_, _∙_, sym, ap}
-use mathlib.Core.List.{List}
-use Prim.Native.Nat.{ℕ, suc, _+_, _*_, _-_, _≤_, _<_}
+use Prim.Native.Nat.{ℕ, _+_, _-_, _≤_, _<_}
 use native.Mathlib.Nat.{sub-zero}
 use native.Mathlib.Omega.{arith}
 use borrow.Author.Needs.{needs}
-use lib.ListN.{length, getD, take, drop}
+use lib.ListN.{length, getD, drop}
 use Rattle.slicefile.specs.Format.{sliceTag, recordLength}
 use Rattle.slicefile.specs.Rules.{sizeRefusal, sliceRefusal}
 use Rattle.slicefile.proofs.RecordLaws.{size-whole}

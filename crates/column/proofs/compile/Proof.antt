@@ -1,8 +1,7 @@
 -- `column::compile` meets its contract: the table has the file's netlist, so the answer for the one is the answer for the other. Assumes nothing.
-use mathlib.Core.Path.{_≡_, _∙_}
+use mathlib.Core.Path.{_∙_}
 use native.Mathlib.Omega.{arith}
 use borrow.Author.Needs.{needs}
-use Rattle.netlist.specs.Agree.{Agree}
 use Rattle.netlist.specs.Graph.{WellFormed}
 use Rattle.netlist.specs.Settle.{readsIn}
 use Rattle.netlist.specs.Table.{gateOf}

@@ -1,5 +1,5 @@
 -- `column::judge` meets its contract. Assumes nothing.
-use mathlib.Core.Path.{_≡_, _∙_, sym}
+use mathlib.Core.Path.{_∙_, sym}
 use borrow.Author.Needs.{needs}
 use Rattle.column.specs.Judge.{bad}
 use Rattle.column.proofs.judge.Statement.{statement}

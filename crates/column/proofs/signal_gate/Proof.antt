@@ -1,5 +1,4 @@
 -- `column::signal_gate` meets its contract: the part of the file is the body of the signal's slice. Assumes nothing.
-use mathlib.Core.Path.{_≡_}
 use Prim.Native.Nat.{_/_}
 use native.Mathlib.Omega.{arith}
 use borrow.Author.Needs.{needs}

@@ -7,7 +7,8 @@ use native.Mathlib.Omega.{arith}
 use borrow.Author.Needs.{needs}
 use lib.Seq.{sets}
 use Rattle.slicefile.specs.Format.{pinCount, pinCode}
-use Rattle.records.specs.Record.{tabulate}
+use Rattle.slicefile.specs.Lists.{tabulate}
+
 use Rattle.records.proofs.Stores.{sets-step, sets-done}
 use Rattle.records.proofs.pin_codes.Statement.{statement}
 use Rattle.records.proofs.pin_codes.Tie as tie

@@ -1,6 +1,7 @@
 -- `records::zero_record` meets its contract: the fields of zero bytes are zeros, by computation. Assumes nothing.
 use mathlib.Core.Path.{refl}
-use Rattle.records.specs.Record.{recordOf, zeroRecord, tabulate}
+use Rattle.slicefile.specs.Lists.{tabulate}
+use Rattle.records.specs.Record.{recordOf, zeroRecord}
 use Rattle.records.proofs.zero_record.Statement.{statement}
 use Rattle.records.proofs.zero_record.Tie as tie
 

@@ -1,12 +1,11 @@
 -- `rewrite::put_records` meets its contract. The loop's invariant: the buffer has the file's bytes up to slice s. Assumes nothing.
 use mathlib.Core.Path.{_≡_, _∙_, refl, sym, ap}
-use mathlib.Core.List.{List}
-use Prim.Native.Nat.{ℕ, _+_, _-_, _≤_, _<_}
+use Prim.Native.Nat.{_-_, _≤_}
 use native.Mathlib.Omega.{arith}
 use borrow.Author.Needs.{needs}
 use native.Mathlib.Nat.{add-sub-cancel-left}
 use borrow.Rule.Slice.PartMut.{same-len-mid}
-use lib.ListN.{length, take, drop, length-take, length-drop}
+use lib.ListN.{length, take, length-take, length-drop}
 use Rattle.column.specs.File.{recordStart}
 use Rattle.column.proofs.SoundLaws.{SoundFile, sound-file}
 use Rattle.rewrite.proofs.Rewriting.{size-next, slice-next, end-next, record-read}

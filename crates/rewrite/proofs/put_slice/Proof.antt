@@ -1,5 +1,5 @@
 -- `rewrite::put_slice` meets its contract: writing what was read gives the same bytes. Assumes nothing.
-use mathlib.Core.Path.{_≡_, _∙_, ap}
+use mathlib.Core.Path.{_∙_, ap}
 use borrow.Author.Needs.{needs}
 use Rattle.records.specs.Calls.{written}
 use Rattle.records.specs.declared.Reading.{Reading}

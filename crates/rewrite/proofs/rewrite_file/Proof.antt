@@ -3,7 +3,7 @@ use mathlib.Core.Path.{_≡_, _∙_, refl, sym}
 use borrow.Author.Needs.{needs}
 use borrow.Author.Tests.{eq-eqb, ne-eqb}
 use Rattle.column.specs.Check.{checkFile}
-use Rattle.column.specs.declared.Checked.the-variants.{Bad, Sound}
+use Rattle.column.specs.declared.Checked.the-variants.{Sound}
 use Rattle.rewrite.specs.Rewrite.{rewritten}
 use Rattle.rewrite.proofs.rewrite_file.Statement.{statement}
 use Rattle.rewrite.proofs.rewrite_file.Tie as tie
