@@ -21,6 +21,7 @@ pub const FILE_LIMIT: usize = SIZE_RECORD + SLICE_RECORD * SLICE_LIMIT + HEAD;
 
 // The numbers of the gate table of a slice, and of the longest file.
 const SLICE_NUMBERS: usize = 224;
+
 const TABLE_LIMIT: usize = SLICE_NUMBERS * SLICE_LIMIT;
 
 // What the records say of a file: the number and the place of the first bad record, or n and m.
@@ -59,7 +60,10 @@ pub fn check_file(file: &[u8]) -> Checked
 {
     let h = slicefile::size_refusal(file);
     if h != 0 {
-        return Checked::Bad { number: h, place: 0 };
+        return Checked::Bad {
+            number: h,
+            place: 0,
+        };
     }
     let n = file[3] as usize;
     let m = file[4] as usize;
@@ -68,7 +72,10 @@ pub fn check_file(file: &[u8]) -> Checked
     while s < n {
         let r = slicefile::slice_refusal(n, m, s, &file[at..]);
         if r != 0 {
-            return Checked::Bad { number: r, place: at };
+            return Checked::Bad {
+                number: r,
+                place: at,
+            };
         }
         s += 1;
         at += SLICE_RECORD;

@@ -8,7 +8,6 @@ ghost use Rattle.netlist.specs.Table.{signalLimit, sourceOf, gateOf};
 ghost use Rattle.levels.specs.Reading.{asRead, readAt, placeCount};
 ghost use Rattle.levels.specs.Answer.{OrderOrLoop};
 ghost use Rattle.levels.specs.Components.{Components, TopReady, Wants, Scanning, Scanned, Above, Least};
-
 use netlist::SIGNAL_LIMIT;
 
 // The answer of the search for loops: the smallest signal on one, or none, with an order.

@@ -49,10 +49,10 @@ module _ (file : List ℕ) {n m : ℕ} (f : SoundFile file n m) where
       let t1 : byteAt file 1 ≡ 2 = omega (arith, told .told, b 1, b 2) in
       let t2 : byteAt file 2 ≡ 0 = omega (arith, told .told, b 1, b 2) in
       let five =
-          join file 0 1 4 (piece-byte file 0 (omega (arith, whole)))
-          (join file 1 1 3 (piece-byte file 1 (omega (arith, whole)))
-          (join file 2 1 2 (piece-byte file 2 (omega (arith, whole)))
-          (join file 3 1 1 (piece-byte file 3 (omega (arith, whole))) (piece-byte file 4 (omega (arith, whole)))))) in
+      join file 0 1 4 (piece-byte file 0 (omega (arith, whole)))
+      (join file 1 1 3 (piece-byte file 1 (omega (arith, whole)))
+      (join file 2 1 2 (piece-byte file 2 (omega (arith, whole)))
+      (join file 3 1 1 (piece-byte file 3 (omega (arith, whole))) (piece-byte file 4 (omega (arith, whole)))))) in
       rw (t0, t1, t2, f .count, f .inputs) at five
 
   -- the record of slice s, whole and by itself

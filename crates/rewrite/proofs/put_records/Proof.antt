@@ -38,7 +38,7 @@ put-bytes-requires : tie.Need-put-bytes-requires Inv-loop μ-loop
 put-bytes-requires c κs = omega (arith, fine (c .before .before) .size, c .before .before .before .before .pre .1)
 
 loop-holds : tie.Need-loop-holds Inv-loop μ-loop
-loop-holds c = 
+loop-holds c =
     let p = c .before .before in
     let k = p .before .before in
     let b = k .before .before .before in
@@ -85,8 +85,7 @@ loop-again : tie.Need-loop-again Inv-loop μ-loop
 loop-again c =
     let p = c .before .before in
     let at = p .before .before .before .before .loop in
-    let f = within (p .before .before .before .before) in
-    (
+    let f = within (p .before .before .before .before) in (
       search needs,
       omega (arith, at .inv .1),
       same-len-mid (at .at) (length (at .out) - at .at) (at .out) (p .put-slice .last .1 .1 .1 .0) (p .put-slice .kept .1 .1 .1 .0) ∙ at .inv .2,
