@@ -7,7 +7,7 @@ use native.Mathlib.Omega.{arith}
 use borrow.Author.Tests.{ltb-false}
 use lib.Dec.{ltb}
 use lib.ListN.{length, take, drop, length-drop}
-use lib.Seq.{drop-drop}
+use lib.Seq.{drop-drop, length-take-le}
 use Rattle.slicefile.specs.Format.{sliceLimit, inputLimit, sliceTag, endTag, headLength, bodyLength, recordLength}
 use Rattle.slicefile.specs.Rules.{given, headerRefusal, sliceRefusal, sizeRefusal}
 use Rattle.slicefile.proofs.RecordLaws.{given-none, header-whole, slice-whole, size-whole, size-tells}
@@ -98,3 +98,8 @@ sound-file file {n} {m} e =
 pub body-part : (file : List ℕ) (s : ℕ) → let at = recordStart s + headLength in take (at + bodyLength sliceTag - at) (drop at file) ≡ sliceBody file s
 unfolding sliceBody
 body-part file s = rw (add-sub-cancel-left, ← drop-drop)
+
+pub body-length : (file : List ℕ) {n m : ℕ} → SoundFile file n m → (s : ℕ) → s < n → length (sliceBody file s) ≡ bodyLength sliceTag
+unfolding sliceBody
+body-length file f s l =
+    length-take-le (bodyLength sliceTag) (drop headLength (drop (recordStart s) file)) (simp length-drop (omega (arith, f .size)))

@@ -1,4 +1,4 @@
--- `Judged` determines the verdict. Assumes nothing.
+-- `Judged` determines the verdict, and a loaded file is judged. Assumes nothing.
 use mathlib.Core.Path.{_≡_, ap, sym, subst}
 use mathlib.Core.List.{List}
 use Prim.Native.Nat.{ℕ, _<_}
@@ -6,7 +6,9 @@ use native.Mathlib.Decide.{decLt}
 use native.Mathlib.Omega.{arith}
 use Rattle.column.specs.File.{signalCount}
 use Rattle.column.specs.Check.{checkFile}
-use Rattle.column.specs.Judge.{Loop, Judged, bad, accepted, loop}
+use Rattle.column.specs.Compile.{Loaded}
+use Rattle.netlist.specs.Graph.{LoopFree}
+use Rattle.column.specs.Judge.{readsAt, Loop, Judged, bad, accepted, loop}
 use Rattle.column.specs.declared.Checked.{Checked}
 use Rattle.column.specs.declared.Checked.the-variants.{Bad, Sound}
 use Rattle.column.specs.declared.Verdict.{Verdict}
@@ -47,3 +49,15 @@ judged-unique file (accepted e g) (loop f b l s) = absurd (no-signal (checkFile 
 judged-unique file (loop e b l s) (bad f) = absurd (sound-not-bad (checkFile file) e f)
 judged-unique file (loop e b l s) (accepted f h) = absurd (no-signal (checkFile file) (Loop file) f e h b l)
 judged-unique file (loop e b l s) (loop f b′ l′ s′) = ap (Refused 9) (smallest-unique (Loop file) l l′ s s′)
+
+-- a loaded file is judged
+pub loaded-judged : (file table order : List ℕ) (v : Verdict) → Loaded file table order v → Judged file v
+loaded-judged file table order (Refused k p) l = l
+loaded-judged file table order (Accepted n m) l = l .0
+
+-- the records of an accepted file are sound, and no signal of it is on a loop
+pub accepted-sound : (file : List ℕ) {n m : ℕ} → Judged file (Accepted n m) → checkFile file ≡ Sound n m
+accepted-sound file (accepted e free) = e
+
+pub accepted-free : (file : List ℕ) {n m : ℕ} → Judged file (Accepted n m) → LoopFree (readsAt file) (signalCount n)
+accepted-free file (accepted e free) = free

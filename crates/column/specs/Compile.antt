@@ -1,11 +1,24 @@
 -- A file compiled: its netlist in the gate table, and the answer of the search for loops.
-use Prim.Native.Nat.{ℕ}
+use Prim.Native.Nat.{ℕ, _*_}
 use mathlib.Core.List.{List}
+use lib.ListN.{take}
 use Rattle.netlist.specs.Agree.{Agree}
+use Rattle.netlist.specs.Graph.{Ordered}
 use Rattle.levels.specs.Answer.{OrderOrLoop}
 use Rattle.netlist.specs.Table.{gateOf}
 use Rattle.levels.specs.declared.Sorted.{Sorted}
+use Rattle.slicefile.specs.Format.{sliceLimit}
 use Rattle.column.specs.File.{signalCount, gateAt}
+use Rattle.column.specs.Judge.{readsAt, Judged}
+use Rattle.column.specs.declared.Verdict.{Verdict}
+use Rattle.column.specs.declared.Verdict.the-variants.{Refused, Accepted}
+
+-- the numbers of a gate table: seven a signal, of n slices and of the longest file
+abbrev pub tableLength : ℕ → ℕ
+tableLength n = 224 * n
+
+abbrev pub tableLimit : ℕ
+tableLimit = tableLength sliceLimit
 
 -- the gate table of n slices has the file's gate at each signal
 abbrev pub Lowered : List ℕ → ℕ → List ℕ → Type 0
@@ -15,3 +28,9 @@ Lowered file n table = Agree (gateOf table n) (gateAt file) (signalCount n)
 pub record Compiled (file : List ℕ) (n : ℕ) (table order : List ℕ) (r : Sorted) : Type 0 where
   pub lowered : Lowered file n table
   pub sorted : OrderOrLoop (gateAt file) (signalCount n) order r
+
+-- a file judged and loaded: for an accepted one the gate table and an order stand at the front of the two buffers
+abbrev pub Loaded : List ℕ → List ℕ → List ℕ → Verdict → Type 0
+Loaded file table order (Refused k p) = Judged file (Refused k p)
+Loaded file table order (Accepted n m) =
+    Judged file (Accepted n m) × Lowered file n (take (tableLength n) table) × Ordered (readsAt file) (signalCount n) (take (signalCount n) order)

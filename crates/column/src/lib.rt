@@ -2,10 +2,11 @@
 ghost use mathlib.Core.Path.{_≡_};
 ghost use Prim.Native.Nat.{_*_, _<_, _^_};
 ghost use lib.ListN.{length};
-ghost use Rattle.column.specs.File.{signalCount, gateAt};
+ghost use Rattle.column.specs.File.{sliceBody, signalCount, gateAt};
 ghost use Rattle.column.specs.Check.{checkEnd, checkFile};
 ghost use Rattle.column.specs.Judge.{Judged};
-ghost use Rattle.column.specs.Compile.{Lowered, Compiled};
+ghost use Rattle.netlist.specs.Table.{signalLimit};
+ghost use Rattle.column.specs.Compile.{tableLimit, Lowered, Compiled, Loaded};
 use levels::Sorted;
 use netlist::Gate;
 use netlist::SIGNAL_LIMIT;
@@ -20,9 +21,9 @@ use slicefile::SLICE_RECORD;
 pub const FILE_LIMIT: usize = SIZE_RECORD + SLICE_RECORD * SLICE_LIMIT + HEAD;
 
 // The numbers of the gate table of a slice, and of the longest file.
-const SLICE_NUMBERS: usize = 224;
+pub const SLICE_NUMBERS: usize = 224;
 
-const TABLE_LIMIT: usize = SLICE_NUMBERS * SLICE_LIMIT;
+pub const TABLE_LIMIT: usize = SLICE_NUMBERS * SLICE_LIMIT;
 
 // What the records say of a file: the number and the place of the first bad record, or n and m.
 pub enum Checked {
@@ -83,14 +84,23 @@ pub fn check_file(file: &[u8]) -> Checked
     check_end(n, m, at, &file[at..])
 }
 
+// The body of slice s of a sound file.
+pub fn slice_body(file: &[u8], n: usize, m: usize, s: usize) -> &[u8]
+    requires { ⌜ (checkFile (now file) ≡ Checked.Sound n m) × (s < n) ⌝ }
+    ensures { λ r. ⌜ now r ≡ sliceBody (now (file .entry)) s ⌝ }
+{
+    let at = SIZE_RECORD + SLICE_RECORD * s + HEAD;
+    &file[at..at + SLICE_BODY]
+}
+
 // The gate of signal x of a sound file.
 fn signal_gate(file: &[u8], n: usize, m: usize, x: usize) -> Gate
     requires { ⌜ (checkFile (now file) ≡ Checked.Sound n m) × (x < signalCount n) ⌝ }
     ensures { λ r. ⌜ r ≡ gateAt (now (file .entry)) x ⌝ }
 {
     let s = x / 32;
-    let at = SIZE_RECORD + SLICE_RECORD * s + HEAD;
-    series7::gate_at(n, m, s, &file[at..at + SLICE_BODY], x % 32)
+    let body = slice_body(file, n, m, s);
+    series7::gate_at(n, m, s, body, x % 32)
 }
 
 // Puts the netlist of a sound file into the gate table.
@@ -116,13 +126,12 @@ fn compile(file: &[u8], n: usize, m: usize, table: &mut [u16], order: &mut [u16]
     levels::order_or_loop(table, n, order)
 }
 
-// The verdict on a file whose records are sound.
-fn judge_sound(file: &[u8], n: usize, m: usize) -> Verdict
+// The verdict on a file whose records are sound, its netlist at the front of the table and an order of its signals at the front of the other.
+fn load_sound(file: &[u8], n: usize, m: usize, table: &mut [u16], order: &mut [u16]) -> Verdict
     requires { ⌜ checkFile (now file) ≡ Checked.Sound n m ⌝ }
-    ensures { λ r. ⌜ Judged (now (file .entry)) r ⌝ }
+    requires { ⌜ (length (now table) ≡ tableLimit) × (length (now order) ≡ signalLimit) ⌝ }
+    ensures { λ r. ⌜ Loaded (now (file .entry)) (now (table .exit)) (now (order .exit)) r ⌝ }
 {
-    let mut table = [0u16; TABLE_LIMIT];
-    let mut order = [0u16; SIGNAL_LIMIT];
     let numbers = SLICE_NUMBERS * n;
     let signals = 32 * n;
     match compile(file, n, m, &mut table[..numbers], &mut order[..signals]) {
@@ -131,12 +140,22 @@ fn judge_sound(file: &[u8], n: usize, m: usize) -> Verdict
     }
 }
 
+// Judges any bytes, and leaves what the calls on an accepted file run on: its netlist in the gate table, and an order.
+pub fn load(file: &[u8], table: &mut [u16], order: &mut [u16]) -> Verdict
+    requires { ⌜ (length (now table) ≡ tableLimit) × (length (now order) ≡ signalLimit) ⌝ }
+    ensures { λ r. ⌜ Loaded (now (file .entry)) (now (table .exit)) (now (order .exit)) r ⌝ }
+{
+    match check_file(file) {
+        Checked::Bad { number, place } => Verdict::Refused { number, place },
+        Checked::Sound { n, m } => load_sound(file, n, m, table, order),
+    }
+}
+
 // Judges any bytes.
 pub fn judge(file: &[u8]) -> Verdict
     ensures { λ r. ⌜ Judged (now (file .entry)) r ⌝ }
 {
-    match check_file(file) {
-        Checked::Bad { number, place } => Verdict::Refused { number, place },
-        Checked::Sound { n, m } => judge_sound(file, n, m),
-    }
+    let mut table = [0u16; TABLE_LIMIT];
+    let mut order = [0u16; SIGNAL_LIMIT];
+    load(file, &mut table, &mut order)
 }

@@ -291,13 +291,13 @@ module _ {g : ℕ → Gate} {N : ℕ} {marks pos stack heads path order : List �
         (λ i j m k _. absurd (omega arith))
 
     -- the top is done, and so is its component, which begins at the top
-    pub close : next < N → getD marks top 0 ≡ 7 → getD pos top 0 ≡ getD heads (count - 1) 0
-        → Went s (set marks top 8) pos stack heads path (set order done top) next (depth - 1) (getD pos top 0) (count - 1) (done + 1) best
-    close l e d =
-        retire (getD pos top 0) (count - 1) l e (omega (arith, top-on s some last .below)) (omega arith) (omega arith)
+    pub close : (at : ℕ) → next < N → getD marks top 0 ≡ 7 → at ≡ getD pos top 0 → getD pos top 0 ≡ getD heads (count - 1) 0
+        → Went s (set marks top 8) pos stack heads path (set order done top) next (depth - 1) at (count - 1) (done + 1) best
+    close at l e a d =
+        retire at (count - 1) l e (omega (arith, top-on s some last .below)) (omega arith) (omega arith)
         (λ k m. let q = s .headed .sorted k (count - 1) m (omega arith) in (omega arith, λ p. omega arith))
         (λ k. same-or-not count 1
         (λ p. let z : getD heads (count - 1) 0 ≡ 0 = rw p (s .headed .bottom (count-some s some last)) in absurd (omega arith))
         (λ p. omega (arith, count-some s some last)))
-        (λ i k a b c. same-or-not k (count - 1) (λ p. absurd (omega (arith, rw p at c))) (λ p. omega arith))
-        (λ i j a b w. rw d (w (count - 1) (omega (arith, count-some s some last)) (omega arith)))
+        (λ i k h b c. same-or-not k (count - 1) (λ p. absurd (omega (arith, rw p at c))) (λ p. omega arith))
+        (λ i j h b w. omega (arith, w (count - 1) (omega (arith, count-some s some last)) (omega arith)))

@@ -7,8 +7,8 @@ use Rattle.slicefile.specs.Format.{sliceTag, recordLength, bodyOf}
 use Rattle.records.specs.Record.{recordOf, recordBytes, zeroRecord}
 use Rattle.records.specs.Calls.{readRefusal, writeRefusal, answerOf, unless, readRecord, written}
 use Rattle.records.specs.declared.Record.{Record}
-use Rattle.records.specs.declared.Answer.{Answer}
-use Rattle.records.specs.declared.Answer.the-variants.{Refused, Done}
+use Rattle.slicefile.specs.declared.Answer.{Answer}
+use Rattle.slicefile.specs.declared.Answer.the-variants.{Refused, Done}
 use Rattle.records.specs.declared.Reading.{Reading}
 
 pub answer-refused : (k : ℕ) → (k ≡ 0 → ⊥) → Refused k 0 ≡ answerOf k

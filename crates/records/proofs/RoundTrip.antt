@@ -15,7 +15,7 @@ use Rattle.slicefile.specs.Lists.{tabulate}
 use Rattle.records.specs.Record.{allBytes, recordOf, zeroRecord, bodyBytes, recordBytes, Below, Typed}
 use Rattle.records.specs.Calls.{recordRefusal, readRefusal, writeRefusal, readRecord, written}
 use Rattle.records.specs.declared.Record.{Record}
-use Rattle.records.specs.declared.Answer.the-variants.{Done}
+use Rattle.slicefile.specs.declared.Answer.the-variants.{Done}
 use Rattle.records.proofs.Pieces.{piece, join, piece-byte, piece-letters, piece-words, piece-codes, below-piece}
 use Rattle.records.proofs.Encoding.{length-allBytes, length-bodyBytes, length-recordBytes}
 use Rattle.records.proofs.Answers.{read-done, write-done}

@@ -8,8 +8,8 @@ use Rattle.slicefile.specs.Format.{sliceTag, recordLength, bodyOf, numberByte}
 use Rattle.slicefile.specs.Rules.{given, _orElse_, headerRefusal, badSize, bodyRefusal}
 use Rattle.records.specs.Record.{recordOf, recordBytes, zeroRecord}
 use Rattle.records.specs.declared.Record.{Record}
-use Rattle.records.specs.declared.Answer.{Answer}
-use Rattle.records.specs.declared.Answer.the-variants.{Refused, Done}
+use Rattle.slicefile.specs.declared.Answer.{Answer}
+use Rattle.slicefile.specs.declared.Answer.the-variants.{Refused, Done}
 use Rattle.records.specs.declared.Reading.{Reading}
 
 -- "both apply rules 2 to 7 to it, any number below n being due"

@@ -7,6 +7,7 @@ ghost use Rattle.slicefile.specs.Format.{pinCount, byteAt, pinCode};
 ghost use Rattle.slicefile.specs.Lists.{tabulate};
 ghost use Rattle.records.specs.Record.{letters, recordOf, bytesOf, allBytes, recordBytes, zeroRecord};
 ghost use Rattle.records.specs.Calls.{recordRefusal, writeRefusal, answerOf, readRecord, written};
+use slicefile::Answer;
 use slicefile::HEAD;
 use slicefile::PIN_COUNT;
 use slicefile::SLICE_RECORD;
@@ -34,12 +35,6 @@ pub struct Record {
     pub resettable: u8,
     // Driver codes: A1-A6, B1-B6, C1-C6, D1-D6, AX to DX, CE, SR, WE.
     pub pins: [u16; PIN_COUNT],
-}
-
-// The answer of a record call: a refusal's number and place, or that it was done.
-pub enum Answer {
-    Refused { number: usize, place: usize },
-    Done,
 }
 
 // The reader's answer: an enum holds no array, so the record stands beside it, all zeros on refusal.

@@ -7,8 +7,8 @@ use lib.ListN.{length}
 use Rattle.column.specs.Check.{checkFile}
 use Rattle.column.specs.declared.Checked.{Checked}
 use Rattle.column.specs.declared.Checked.the-variants.{Bad, Sound}
-use Rattle.records.specs.declared.Answer.{Answer}
-use Rattle.records.specs.declared.Answer.the-variants.{Refused, Done}
+use Rattle.slicefile.specs.declared.Answer.{Answer}
+use Rattle.slicefile.specs.declared.Answer.the-variants.{Refused, Done}
 
 -- a bad file's number and place; a buffer of another length than the file's, 10; else done
 abbrev pub rewriteAnswer : Checked → Bool → Answer

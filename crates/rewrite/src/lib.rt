@@ -8,7 +8,7 @@ ghost use Rattle.records.specs.Calls.{readRefusal};
 ghost use Rattle.column.specs.Check.{checkFile};
 ghost use Rattle.rewrite.specs.Rewrite.{leftBy, rewritten};
 use column::Checked;
-use records::Answer;
+use slicefile::Answer;
 use slicefile::END;
 use slicefile::SIZE_RECORD;
 use slicefile::SLICE_RECORD;

@@ -55,6 +55,12 @@ pub enum Decoded {
     Missing,
 }
 
+// The answer of a call that gives nothing back: a refusal's number and place, or that it was done.
+pub enum Answer {
+    Refused { number: usize, place: usize },
+    Done,
+}
+
 // The driver that a pin code names in a file of n slices and m outside inputs.
 pub fn decode_driver(code: u16, n: usize, m: usize) -> Decoded
     ensures { λ r. ⌜ r ≡ driverOf code n m ⌝ }

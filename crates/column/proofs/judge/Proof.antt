@@ -1,27 +1,22 @@
 -- `column::judge` meets its contract. Assumes nothing.
-use mathlib.Core.Path.{_∙_, sym}
 use borrow.Author.Needs.{needs}
-use Rattle.column.specs.Judge.{bad}
+use Rattle.column.proofs.Verdicts.{loaded-judged}
 use Rattle.column.proofs.judge.Statement.{statement}
 use Rattle.column.proofs.judge.Tie as tie
 
-check-file-requires : tie.Need-check-file-requires
-check-file-requires c κs = search needs
+slice-aggregate-load : tie.Need-slice-aggregate-load
+slice-aggregate-load c = search needs
 
-enum-known-number : tie.Need-enum-known-number
-enum-known-number c = search needs
+slice-aggregate-load-2 : tie.Need-slice-aggregate-load-2
+slice-aggregate-load-2 c = search needs
 
-enum-known-n : tie.Need-enum-known-n
-enum-known-n c = search needs
-
-judge-sound-requires : tie.Need-judge-sound-requires
-judge-sound-requires c κs = sym (c .before .before .before .check-file .ensures) ∙ c .before .n .given .1
+load-requires : tie.Need-load-requires
+load-requires c κs = search needs
 
 returns : tie.Need-returns
-returns c = bad (sym (c .before .before .before .check-file .ensures) ∙ c .before .number .given .1)
-
-returns-2 : tie.Need-returns-2
-returns-2 c = search needs
+returns c =
+    let l = c .before .before .load in
+    loaded-judged (c .before .before .before .before .before .before .args .file .now) (l .last .1 .0) (l .last .1 .1 .0) (l .result) (l .ensures)
 
 pub judge-spec : {M : Type 1} → statement M
-judge-spec = tie.close (tie.spec check-file-requires enum-known-number enum-known-n judge-sound-requires returns returns-2)
+judge-spec = tie.close (tie.spec slice-aggregate-load slice-aggregate-load-2 load-requires returns)

@@ -164,7 +164,7 @@ returns-2 c =
     let a = c .before .before .before in
     let b = begin a in
     let w = wanted a _ (c .before .at .given .1) in
-    rw (w .1) (close (b .pre .0) (b .pre .1 .1) (b .pre .1 .2) (b .pre .1 .0) (w .0) (w .2))
+    close (b .pre .0) (b .pre .1 .1) (b .pre .1 .2) _ (b .pre .1 .0) (w .0) (w .1) (w .2)
 
 same-length-10 : tie.Need-same-length-10
 same-length-10 c = search needs

@@ -1,0 +1,29 @@
+-- A change given by marks: a byte for each outside input and one for each table, not 0 where it changes. Past the end nothing is marked.
+use mathlib.Core.Bool.{Bool, false, _||_}
+use mathlib.Core.List.{List, []}
+use Prim.Native.Nat.{ℕ}
+use Rattle.netlist.specs.declared.Source.{Source}
+use Rattle.netlist.specs.declared.Source.the-variants.{Constant, Input, Signal}
+use Rattle.netlist.specs.declared.Gate.{Gate}
+use Rattle.netlist.specs.declared.Gate.the-variants.{Lut, ZeroOf, Select, Xor, Same, Stored}
+use Rattle.netlist.specs.Rule.{sourcesOf, anySource}
+use Rattle.netlist.specs.Settle.{isMarked}
+
+-- the source is a marked outside input or a marked signal
+abbrev pub sourceReached : List ℕ → List ℕ → Source → Bool
+sourceReached inputs signals (Constant b) = false
+sourceReached inputs signals (Input j) = isMarked inputs j
+sourceReached inputs signals (Signal y) = isMarked signals y
+
+-- the gate belongs to the contents of a marked table: "O6 and O5 of that table, signal 19 if it is A", also where it is 0
+abbrev pub tableMarked : List ℕ → Gate → Bool
+tableMarked tables (Lut t p1 p2 p3 p4 p5 p6) = isMarked tables t
+tableMarked tables (ZeroOf t) = isMarked tables t
+tableMarked tables (Select s one none) = false
+tableMarked tables (Xor a b) = false
+tableMarked tables (Same a) = false
+tableMarked tables (Stored k) = false
+
+-- the gate touches the change: it "has a pin it reads driven by that input", or belongs to those contents
+unfoldable pub touchesMarked : List ℕ → List ℕ → Gate → Bool
+touchesMarked inputs tables gate = anySource (sourceReached inputs []) (sourcesOf gate) || tableMarked tables gate

@@ -1,0 +1,22 @@
+-- `simulator::bad_table` meets its contract. Assumes nothing.
+use native.Mathlib.Omega.{arith}
+use borrow.Author.Needs.{needs}
+use borrow.Author.Tests.{le-leb, lt-leb}
+use Rattle.column.proofs.SoundLaws.{sound-file}
+use Rattle.simulator.proofs.bad_table.Statement.{statement}
+use Rattle.simulator.proofs.bad_table.Tie as tie
+
+mul-if1 : tie.Need-mul-if1
+mul-if1 c = omega (arith, sound-file (c .before .args .file .now) (c .before .pre) .slices-fit)
+
+returns : tie.Need-returns
+returns c = simp (le-leb _ _ (c .if1 .taken))
+
+bad-word-requires : tie.Need-bad-word-requires
+bad-word-requires c κs = search needs
+
+returns-2 : tie.Need-returns-2
+returns-2 c = simp (lt-leb _ _ (c .before .if1 .left), c .bad-word .ensures)
+
+pub bad-table-spec : {M : Type 1} → statement M
+bad-table-spec = tie.close (tie.spec mul-if1 returns bad-word-requires returns-2)

@@ -1,0 +1,47 @@
+-- `simulator::settle_refusal` meets its contract: each `return` is the first refusal whose test passes. Assumes nothing.
+use mathlib.Core.Path.{_≡_, _∙_, sym}
+use mathlib.Core.Bool.{false}
+use borrow.Author.Needs.{needs}
+use Rattle.column.proofs.SoundLaws.{sound-file}
+use Rattle.simulator.specs.Buffers.{badLengths, settleRefusal}
+use Rattle.simulator.specs.Calls.{stateOf}
+use Rattle.simulator.proofs.Lengths.{Lengths, lengths}
+use Rattle.simulator.proofs.settle_refusal.Statement.{statement}
+use Rattle.simulator.proofs.settle_refusal.Tie as tie
+
+bad-lengths-requires : tie.Need-bad-lengths-requires
+bad-lengths-requires c κs =
+    let b = c .before .before .before .before .before in
+    sound-file (b .args .file .now) (b .pre) .slices-fit
+
+returns : tie.Need-returns
+unfolding settleRefusal
+returns c = simp (← c .before .bad-lengths .ensures, c .if1 .taken)
+
+bad-bytes-requires : tie.Need-bad-bytes-requires
+bad-bytes-requires c κs = search needs
+
+fit : (c : tie.Else1) → let a = c .before .before .before .before .before .before .before .args in Lengths (a .n) (a .m) (stateOf (a .contents .now) (a .flops .now)) (a .inputs .now) (a .values .now)
+fit c =
+    let a = c .before .before .before .before .before .before .before .args in
+    lengths (a .n) (a .m) (stateOf (a .contents .now) (a .flops .now)) (a .inputs .now) (a .values .now) (sym (c .before .bad-lengths .ensures) ∙ c .if1 .left)
+
+bad-words-requires : tie.Need-bad-words-requires
+bad-words-requires c κs = (c .before .before .before .before .before .before .before .before .pre, fit (c .before) .contents)
+
+returns-2 : tie.Need-returns-2
+unfolding settleRefusal
+returns-2 c =
+    let k = c .before in
+    let e = k .before .before in
+    simp (← e .before .bad-lengths .ensures, e .if1 .left, ← k .before .bad-bytes .ensures, ← k .bad-words .ensures, c .if2 .taken)
+
+returns-3 : tie.Need-returns-3
+unfolding settleRefusal
+returns-3 c =
+    let k = c .before in
+    let e = k .before .before in
+    simp (← e .before .bad-lengths .ensures, e .if1 .left, ← k .before .bad-bytes .ensures, ← k .bad-words .ensures, c .if2 .left)
+
+pub settle-refusal-spec : {M : Type 1} → statement M
+settle-refusal-spec = tie.close (tie.spec bad-lengths-requires returns bad-bytes-requires bad-words-requires returns-2 returns-3)

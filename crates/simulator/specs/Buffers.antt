@@ -1,0 +1,48 @@
+-- Refusals 10 and 11: what is wrong with the buffers and arguments lent to a call, for a file of n slices and m outside inputs.
+use Prim.Native.Nat.{ℕ, _*_, _/_, _%_, _^_}
+use mathlib.Core.Bool.{Bool, not, _&&_, _||_}
+use mathlib.Core.List.{List}
+use lib.Dec.{eqb, ltb, leb}
+use lib.ListN.{length, getD}
+use Rattle.slicefile.specs.Lists.{anyBelow}
+use Rattle.slicefile.specs.Format.{mode}
+use Rattle.slicefile.specs.Rules.{given, _orElse_}
+use Rattle.column.specs.Clock.{State}
+use Rattle.column.specs.File.{sliceBody, signalCount}
+
+-- "a buffer of another length than named": 4n words of contents, n flip-flop bytes
+unfoldable pub badState : ℕ → State → Bool
+badState n st = not (eqb (length (st .contents)) (4 * n)) || not (eqb (length (st .flops)) n)
+
+-- besides these, m input bytes and 32n value bytes
+unfoldable pub badLengths : ℕ → ℕ → State → List ℕ → List ℕ → Bool
+badLengths n m st inputs values =
+    badState n st || not (eqb (length inputs) m) || not (eqb (length values) (signalCount n))
+
+-- "an input or value byte not 0 or 1"
+unfoldable pub badBytes : List ℕ → Bool
+badBytes bytes = anyBelow (length bytes) (λ i. ltb 1 (getD bytes i 0))
+
+-- "a word or new contents with bits 32-63 set in mode 2", of table t, numbered as its word
+unfoldable pub badWord : List ℕ → ℕ → ℕ → Bool
+badWord file t w = eqb (mode (sliceBody file (t / 4)) (t % 4)) 2 && leb (2 ^ 32) w
+
+unfoldable pub badWords : List ℕ → List ℕ → Bool
+badWords file contents = anyBelow (length contents) (λ t. badWord file t (getD contents t 0))
+
+-- settling and clocking: "bytes that are only filled (values in settle and clock; all in power up) are not judged"
+unfoldable pub settleRefusal : List ℕ → State → List ℕ → List ℕ → ℕ → ℕ → ℕ
+settleRefusal file st inputs values n m = given 10 (badLengths n m st inputs values) orElse given 11 (badBytes inputs || badWords file (st .contents))
+
+-- an edit, whose own argument is bad or not
+unfoldable pub editRefusal : Bool → List ℕ → State → List ℕ → List ℕ → ℕ → ℕ → ℕ
+editRefusal argument file st inputs values n m =
+    given 10 (badLengths n m st inputs values) orElse given 11 (badBytes inputs || badBytes values || badWords file (st .contents) || argument)
+
+-- "an outside input below m", and a byte 0 or 1 for it
+abbrev pub badInput : ℕ → ℕ → ℕ → Bool
+badInput m input byte = leb m input || ltb 1 byte
+
+-- "a table, numbered as its word, below 4n", and contents that its mode allows
+abbrev pub badTable : List ℕ → ℕ → ℕ → ℕ → Bool
+badTable file n table word = leb (4 * n) table || badWord file table word

@@ -1,0 +1,70 @@
+-- What the calls on a file answer and leave. "Every call takes the file and judges it first: a refused file makes the call give the same number
+-- and place"; its own refusals, 10 and 11, have place 0; "a refusal writes nothing".
+use Prim.Native.Nat.{ℕ, suc}
+use mathlib.Core.Path.{_≡_}
+use mathlib.Core.Bool.{Bool}
+use mathlib.Core.List.{List}
+use lib.ListN.{length, set}
+use Rattle.netlist.specs.Graph.{Ordered}
+use Rattle.netlist.specs.Rule.{touchesInput, touchesTable}
+use Rattle.netlist.specs.Settle.{Edited}
+use Rattle.netlist.specs.declared.Gate.{Gate}
+use Rattle.slicefile.specs.declared.Answer.{Answer}
+use Rattle.slicefile.specs.declared.Answer.the-variants.{Refused as AnswerRefused, Done}
+use Rattle.slicefile.specs.Rules.{given}
+use Rattle.column.specs.Clock.{State, envOf, powerUp, clocked, SettledFor}
+use Rattle.column.specs.Compile.{tableLength, Lowered}
+use Rattle.column.specs.File.{signalCount, gateAt}
+use Rattle.column.specs.Judge.{readsAt, Judged}
+use Rattle.column.specs.declared.Verdict.{Verdict}
+use Rattle.column.specs.declared.Verdict.the-variants.{Refused, Accepted}
+use Rattle.simulator.specs.Buffers.{badState, settleRefusal, editRefusal, badInput, badTable}
+
+-- a call on a file, with its own refusal for n and m, what is so where nothing was written, and what is so where it was done
+pub data Called (file : List ℕ) (own : ℕ → ℕ → ℕ) (Kept : Type 0) (Did : ℕ → ℕ → Type 0) : Answer → Type 0 where
+  judged : {k p : ℕ} → Judged file (Refused k p) → Kept → Called file own Kept Did (AnswerRefused k p)
+  refused : {n m k : ℕ} → Judged file (Accepted n m) → own n m ≡ suc k → Kept → Called file own Kept Did (AnswerRefused (suc k) 0)
+  done : {n m : ℕ} → Judged file (Accepted n m) → own n m ≡ 0 → Did n m → Called file own Kept Did Done
+
+-- what the calls on an accepted file run on: its netlist in the gate table, and an order of its signals
+pub record Ready (file : List ℕ) (n : ℕ) (net order : List ℕ) : Type 0 where
+  pub sized : length net ≡ tableLength n
+  pub lowered : Lowered file n net
+  pub ordered : Ordered (readsAt file) (signalCount n) order
+
+-- the judge's refusal as the answer of a call
+abbrev pub refusalOf : Verdict → Answer
+refusalOf (Refused k p) = AnswerRefused k p
+refusalOf (Accepted n m) = Done
+
+abbrev pub stateOf : List ℕ → List ℕ → State
+stateOf contents flops = record { contents = contents; flops = flops }
+
+-- "power up (fills contents and flip-flops)"
+abbrev pub PoweredUp : List ℕ → State → State → Answer → Type 0
+PoweredUp file old new = Called file (λ n m. given 10 (badState n old)) (new ≡ old) (λ n m. new ≡ powerUp file)
+
+-- "settle (fills values)"
+abbrev pub SettleCalled : List ℕ → State → List ℕ → List ℕ → List ℕ → Answer → Type 0
+SettleCalled file st inputs old new = Called file (settleRefusal file st inputs old) (new ≡ old) (λ n m. SettledFor file st inputs new)
+
+-- "clock (leaves the value table settled before the edge, and the moved state)"
+abbrev pub ClockCalled : List ℕ → State → State → List ℕ → List ℕ → List ℕ → Answer → Type 0
+ClockCalled file st moved inputs old new =
+    Called file (settleRefusal file st inputs old) ((moved ≡ st) × (new ≡ old)) (λ n m. (moved ≡ clocked file st inputs new) × SettledFor file st inputs new)
+
+-- the value table that an edit leaves, for the state and inputs after it: what depends on the change is recomputed, all else keeps its byte
+abbrev pub EditedFor : List ℕ → (Gate → Bool) → State → List ℕ → List ℕ → List ℕ → ℕ → Type 0
+EditedFor file touches st inputs old new n = Edited (gateAt file) (signalCount n) (envOf st inputs) (λ x. touches (gateAt file x)) old new
+
+-- "edit an input": leaves its new byte, and the values
+abbrev pub InputEdited : List ℕ → State → ℕ → ℕ → List ℕ → List ℕ → List ℕ → List ℕ → Answer → Type 0
+InputEdited file st input byte inputs inputs′ old new =
+    Called file (λ n m. editRefusal (badInput m input byte) file st inputs old n m) ((inputs′ ≡ inputs) × (new ≡ old))
+    (λ n m. (inputs′ ≡ set inputs input byte) × EditedFor file (touchesInput input) st inputs′ old new n)
+
+-- "edit a table's contents": leaves its new word, and the values
+abbrev pub TableEdited : List ℕ → List ℕ → List ℕ → List ℕ → ℕ → ℕ → List ℕ → List ℕ → List ℕ → Answer → Type 0
+TableEdited file contents contents′ flops table word inputs old new =
+    Called file (λ n m. editRefusal (badTable file n table word) file (stateOf contents flops) inputs old n m) ((contents′ ≡ contents) × (new ≡ old))
+    (λ n m. (contents′ ≡ set contents table word) × EditedFor file (touchesTable table) (stateOf contents′ flops) inputs old new n)

@@ -1,0 +1,308 @@
+// The calls on a slice file and lent buffers: power up, settle, clock, edit an input, edit a table's contents.
+ghost use mathlib.Core.Path.{_≡_};
+ghost use Prim.Native.Nat.{_+_, _*_, _/_, _%_, _<_, _≤_};
+ghost use lib.ListN.{length, getD};
+ghost use Rattle.slicefile.specs.Format.{sliceLimit, mode};
+ghost use Rattle.column.specs.Check.{checkFile};
+ghost use Rattle.column.specs.Clock.{powerUp};
+ghost use Rattle.column.specs.File.{sliceBody};
+ghost use Rattle.column.specs.Judge.{Judged};
+ghost use Rattle.simulator.specs.Buffers.{badState, badLengths, badBytes, badWord, badWords, settleRefusal, editRefusal, badTable};
+ghost use Rattle.simulator.specs.Calls.{stateOf, refusalOf, Ready, PoweredUp, SettleCalled, InputEdited, TableEdited};
+use column::Checked;
+use column::SLICE_NUMBERS;
+use column::TABLE_LIMIT;
+use column::Verdict;
+use netlist::SIGNAL_LIMIT;
+use slicefile::Answer;
+use slicefile::INPUT_LIMIT;
+use slicefile::SLICE_LIMIT;
+
+// The most words of contents.
+const CONTENTS_LIMIT: usize = 4 * SLICE_LIMIT;
+
+// Whether the contents or the flip-flops have another length than n slices take.
+fn bad_state(n: usize, contents: &[u64], flops: &[u8]) -> bool
+    requires { ⌜ n ≤ sliceLimit ⌝ }
+    ensures { λ r. ⌜ r ≡ badState n (stateOf (now (contents .entry)) (now (flops .entry))) ⌝ }
+{
+    (contents.len() != 4 * n) | (flops.len() != n)
+}
+
+// Whether any of the four buffers has another length than named.
+fn bad_lengths(n: usize, m: usize, contents: &[u64], flops: &[u8], inputs: &[u8], values: &[u8]) -> bool
+    requires { ⌜ n ≤ sliceLimit ⌝ }
+    ensures { λ r. ⌜ r ≡ badLengths n m (stateOf (now (contents .entry)) (now (flops .entry))) (now (inputs .entry)) (now (values .entry)) ⌝ }
+{
+    bad_state(n, contents, flops) | (inputs.len() != m) | (values.len() != 32 * n)
+}
+
+// Whether a byte is neither 0 nor 1.
+fn bad_bytes(bytes: &[u8]) -> bool
+    ensures { λ r. ⌜ r ≡ badBytes (now (bytes .entry)) ⌝ }
+{
+    let mut found = false;
+    let mut i = 0;
+    while i < bytes.len() {
+        found = (1 < bytes[i]) | found;
+        i += 1;
+    }
+    found
+}
+
+// Whether a word has bits 32 to 63 set while table t of a sound file is in shift mode.
+fn bad_word(file: &[u8], n: usize, m: usize, t: usize, word: u64) -> bool
+    requires { ⌜ (checkFile (now file) ≡ Checked.Sound n m) × (t < 4 * n) ⌝ }
+    ensures { λ r. ⌜ r ≡ badWord (now (file .entry)) t word ⌝ }
+{
+    let body = column::slice_body(file, n, m, t / 4);
+    (body[2 + t % 4] == 2) & (4294967296 <= word)
+}
+
+// Whether any word does.
+fn bad_words(file: &[u8], n: usize, m: usize, contents: &[u64]) -> bool
+    requires { ⌜ (checkFile (now file) ≡ Checked.Sound n m) × (length (now contents) ≡ 4 * n) ⌝ }
+    ensures { λ r. ⌜ r ≡ badWords (now (file .entry)) (now (contents .entry)) ⌝ }
+{
+    let mut found = false;
+    let mut t = 0;
+    while t < contents.len() {
+        found = bad_word(file, n, m, t, contents[t]) | found;
+        t += 1;
+    }
+    found
+}
+
+// The judge's refusal as the answer of a call.
+fn refusal(v: Verdict) -> Answer
+    ensures { λ r. ⌜ r ≡ refusalOf v ⌝ }
+{
+    match v {
+        Verdict::Refused { number, place } => Answer::Refused { number, place },
+        Verdict::Accepted { n: _, m: _ } => Answer::Done,
+    }
+}
+
+// Fills the contents with those of a sound file.
+fn fill_contents(file: &[u8], n: usize, m: usize, contents: &mut [u64])
+    requires { ⌜ (checkFile (now file) ≡ Checked.Sound n m) × (length (now contents) ≡ 4 * n) ⌝ }
+    ensures { λ _. ⌜ now (contents .exit) ≡ powerUp (now (file .entry)) .contents ⌝ }
+{
+    let mut t = 0;
+    while t < 4 * n {
+        let body = column::slice_body(file, n, m, t / 4);
+        contents[t] = slicefile::contents_word(body, t % 4);
+        t += 1;
+    }
+}
+
+// Fills the flip-flops with the power-up bits of a sound file.
+fn fill_flops(file: &[u8], n: usize, m: usize, flops: &mut [u8])
+    requires { ⌜ (checkFile (now file) ≡ Checked.Sound n m) × (length (now flops) ≡ n) ⌝ }
+    ensures { λ _. ⌜ now (flops .exit) ≡ powerUp (now (file .entry)) .flops ⌝ }
+{
+    let mut s = 0;
+    while s < n {
+        let body = column::slice_body(file, n, m, s);
+        flops[s] = body[59];
+        s += 1;
+    }
+}
+
+// Powers up an accepted file.
+fn power_up_accepted(file: &[u8], n: usize, m: usize, contents: &mut [u64], flops: &mut [u8]) -> Answer
+    requires { ⌜ Judged (now file) (Verdict.Accepted n m) ⌝ }
+    ensures { λ r. ⌜ PoweredUp (now (file .entry)) (stateOf (now (contents .entry)) (now (flops .entry))) (stateOf (now (contents .exit)) (now (flops .exit))) r ⌝ }
+{
+    if bad_state(n, contents, flops) {
+        return Answer::Refused {
+            number: 10,
+            place: 0,
+        };
+    }
+    fill_contents(file, n, m, contents);
+    fill_flops(file, n, m, flops);
+    Answer::Done
+}
+
+// Fills 4n words of contents and n flip-flop bytes with the state at power-up.
+pub fn power_up(file: &[u8], contents: &mut [u64], flops: &mut [u8]) -> Answer
+    ensures { λ r. ⌜ PoweredUp (now (file .entry)) (stateOf (now (contents .entry)) (now (flops .entry))) (stateOf (now (contents .exit)) (now (flops .exit))) r ⌝ }
+{
+    let v = column::judge(file);
+    let Verdict::Accepted { n, m } = v else {
+        return refusal(v);
+    };
+    power_up_accepted(file, n, m, contents, flops)
+}
+
+// The refusal of settling and clocking a sound file's buffers, 0 where there is none.
+fn settle_refusal(file: &[u8], n: usize, m: usize, contents: &[u64], flops: &[u8], inputs: &[u8], values: &[u8]) -> usize
+    requires { ⌜ checkFile (now file) ≡ Checked.Sound n m ⌝ }
+    ensures { λ r. ⌜ r ≡ settleRefusal (now (file .entry)) (stateOf (now (contents .entry)) (now (flops .entry))) (now (inputs .entry)) (now (values .entry)) n m ⌝ }
+{
+    if bad_lengths(n, m, contents, flops, inputs, values) {
+        return 10;
+    }
+    let bytes = bad_bytes(inputs);
+    let words = bad_words(file, n, m, contents);
+    if bytes | words {
+        return 11;
+    }
+    0
+}
+
+// Settles an accepted file.
+fn settle_accepted(file: &[u8], n: usize, m: usize, net: &[u16], order: &[u16], contents: &[u64], flops: &[u8], inputs: &[u8], values: &mut [u8]) -> Answer
+    requires { ⌜ Judged (now file) (Verdict.Accepted n m) × Ready (now file) n (now net) (now order) ⌝ }
+    ensures { λ r. ⌜ SettleCalled (now (file .entry)) (stateOf (now (contents .entry)) (now (flops .entry))) (now (inputs .entry)) (now (values .entry)) (now (values .exit)) r ⌝ }
+{
+    let number = settle_refusal(file, n, m, contents, flops, inputs, values);
+    if number != 0 {
+        return Answer::Refused { number, place: 0 };
+    }
+    gates::settle_by(net, n, order, contents, flops, inputs, values);
+    Answer::Done
+}
+
+// Fills 32n value bytes with the settled signals.
+pub fn settle(file: &[u8], contents: &[u64], flops: &[u8], inputs: &[u8], values: &mut [u8]) -> Answer
+    ensures { λ r. ⌜ SettleCalled (now (file .entry)) (stateOf (now (contents .entry)) (now (flops .entry))) (now (inputs .entry)) (now (values .entry)) (now (values .exit)) r ⌝ }
+{
+    let mut net = [0u16; TABLE_LIMIT];
+    let mut order = [0u16; SIGNAL_LIMIT];
+    let v = column::load(file, &mut net, &mut order);
+    let Verdict::Accepted { n, m } = v else {
+        return refusal(v);
+    };
+    let numbers = SLICE_NUMBERS * n;
+    let signals = 32 * n;
+    settle_accepted(
+        file,
+        n,
+        m,
+        &net[..numbers],
+        &order[..signals],
+        contents,
+        flops,
+        inputs,
+        values,
+    )
+}
+
+// The refusal of an edit of a sound file's buffers, whose own argument is bad or not, 0 where there is none.
+fn edit_refusal(bad: bool, file: &[u8], n: usize, m: usize, contents: &[u64], flops: &[u8], inputs: &[u8], values: &[u8]) -> usize
+    requires { ⌜ checkFile (now file) ≡ Checked.Sound n m ⌝ }
+    ensures { λ r. ⌜ r ≡ editRefusal bad (now (file .entry)) (stateOf (now (contents .entry)) (now (flops .entry))) (now (inputs .entry)) (now (values .entry)) n m ⌝ }
+{
+    if bad_lengths(n, m, contents, flops, inputs, values) {
+        return 10;
+    }
+    let bytes = bad_bytes(inputs) | bad_bytes(values);
+    let words = bad_words(file, n, m, contents);
+    if bytes | words | bad {
+        return 11;
+    }
+    0
+}
+
+// Edits an input of an accepted file.
+fn edit_input_accepted(file: &[u8], n: usize, m: usize, net: &[u16], order: &[u16], contents: &[u64], flops: &[u8], inputs: &mut [u8], values: &mut [u8], input: usize, byte: u8) -> Answer
+    requires { ⌜ Judged (now file) (Verdict.Accepted n m) × Ready (now file) n (now net) (now order) ⌝ }
+    ensures { λ r. ⌜ InputEdited (now (file .entry)) (stateOf (now (contents .entry)) (now (flops .entry))) input byte (now (inputs .entry)) (now (inputs .exit)) (now (values .entry)) (now (values .exit)) r ⌝ }
+{
+    let bad = (m <= input) | (1 < byte);
+    let number = edit_refusal(bad, file, n, m, contents, flops, inputs, values);
+    if number != 0 {
+        return Answer::Refused { number, place: 0 };
+    }
+    inputs[input] = byte;
+    let mut changed = [0u8; INPUT_LIMIT];
+    changed[input] = 1;
+    let edited = [0u8; 1];
+    gates::edit_by(net, n, order, contents, flops, inputs, values, &changed, &edited);
+    Answer::Done
+}
+
+// Sets an outside input, and recomputes the signals that depend on it.
+pub fn edit_input(file: &[u8], contents: &[u64], flops: &[u8], inputs: &mut [u8], values: &mut [u8], input: usize, byte: u8) -> Answer
+    ensures { λ r. ⌜ InputEdited (now (file .entry)) (stateOf (now (contents .entry)) (now (flops .entry))) input byte (now (inputs .entry)) (now (inputs .exit)) (now (values .entry)) (now (values .exit)) r ⌝ }
+{
+    let mut net = [0u16; TABLE_LIMIT];
+    let mut order = [0u16; SIGNAL_LIMIT];
+    let v = column::load(file, &mut net, &mut order);
+    let Verdict::Accepted { n, m } = v else {
+        return refusal(v);
+    };
+    let numbers = SLICE_NUMBERS * n;
+    let signals = 32 * n;
+    edit_input_accepted(
+        file,
+        n,
+        m,
+        &net[..numbers],
+        &order[..signals],
+        contents,
+        flops,
+        inputs,
+        values,
+        input,
+        byte,
+    )
+}
+
+// Whether a table is not there, or its mode does not allow the word.
+fn bad_table(file: &[u8], n: usize, m: usize, table: usize, word: u64) -> bool
+    requires { ⌜ checkFile (now file) ≡ Checked.Sound n m ⌝ }
+    ensures { λ r. ⌜ r ≡ badTable (now (file .entry)) n table word ⌝ }
+{
+    if 4 * n <= table {
+        return true;
+    }
+    bad_word(file, n, m, table, word)
+}
+
+// Edits a table's contents of an accepted file.
+fn edit_table_accepted(file: &[u8], n: usize, m: usize, net: &[u16], order: &[u16], contents: &mut [u64], flops: &[u8], inputs: &[u8], values: &mut [u8], table: usize, word: u64) -> Answer
+    requires { ⌜ Judged (now file) (Verdict.Accepted n m) × Ready (now file) n (now net) (now order) ⌝ }
+    ensures { λ r. ⌜ TableEdited (now (file .entry)) (now (contents .entry)) (now (contents .exit)) (now (flops .entry)) table word (now (inputs .entry)) (now (values .entry)) (now (values .exit)) r ⌝ }
+{
+    let bad = bad_table(file, n, m, table, word);
+    let number = edit_refusal(bad, file, n, m, contents, flops, inputs, values);
+    if number != 0 {
+        return Answer::Refused { number, place: 0 };
+    }
+    contents[table] = word;
+    let changed = [0u8; 1];
+    let mut edited = [0u8; CONTENTS_LIMIT];
+    edited[table] = 1;
+    gates::edit_by(net, n, order, contents, flops, inputs, values, &changed, &edited);
+    Answer::Done
+}
+
+// Sets a table's contents, and recomputes the signals that depend on them. The table is numbered as its word.
+pub fn edit_table(file: &[u8], contents: &mut [u64], flops: &[u8], inputs: &[u8], values: &mut [u8], table: usize, word: u64) -> Answer
+    ensures { λ r. ⌜ TableEdited (now (file .entry)) (now (contents .entry)) (now (contents .exit)) (now (flops .entry)) table word (now (inputs .entry)) (now (values .entry)) (now (values .exit)) r ⌝ }
+{
+    let mut net = [0u16; TABLE_LIMIT];
+    let mut order = [0u16; SIGNAL_LIMIT];
+    let v = column::load(file, &mut net, &mut order);
+    let Verdict::Accepted { n, m } = v else {
+        return refusal(v);
+    };
+    let numbers = SLICE_NUMBERS * n;
+    let signals = 32 * n;
+    edit_table_accepted(
+        file,
+        n,
+        m,
+        &net[..numbers],
+        &order[..signals],
+        contents,
+        flops,
+        inputs,
+        values,
+        table,
+        word,
+    )
+}
