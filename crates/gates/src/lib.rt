@@ -13,7 +13,7 @@ use netlist::Gate;
 use netlist::Source;
 
 // The source that a number of the gate table stands for.
-fn source_of(code: u16) -> Source
+pub fn source_of(code: u16) -> Source
     ensures { λ r. ⌜ r ≡ sourceOf code ⌝ }
 {
     if code < 256 {

@@ -13,7 +13,7 @@ use Rattle.netlist.specs.Table.{SourceFits, GateFits}
 
 -- a netlist of more inputs has the gates of one with fewer
 module _ (n : ℕ) {m k : ℕ} (h : m ≤ k) where
-  source-more : (s : Source) → SourceFits n m s → SourceFits n k s
+  pub source-more : (s : Source) → SourceFits n m s → SourceFits n k s
   source-more (Constant b) f = tt
   source-more (Input j) f = omega arith
   source-more (Signal x) f = f

@@ -42,7 +42,7 @@ code-fits n (Input j) h f = omega arith
 code-fits n (Signal x) h f = omega arith
 
 -- a code says its source
-source-back : (n : ℕ) (s : Source) → SourceFits n inputRoom s → sourceOf (codeOf s) ≡ s
+pub source-back : (n : ℕ) (s : Source) → SourceFits n inputRoom s → sourceOf (codeOf s) ≡ s
 unfolding codeOf sourceOf
 source-back n (Constant true) f = refl
 source-back n (Constant false) f = refl

@@ -43,7 +43,7 @@ pub enum Gate {
 }
 
 // The number that stands for a source in the gate table.
-fn source_code(source: Source) -> u16
+pub fn source_code(source: Source) -> u16
     requires { ⌜ codeOf source < 65536 ⌝ }
     ensures { λ r. ⌜ r ≡ codeOf source ⌝ }
 {

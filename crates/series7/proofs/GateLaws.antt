@@ -14,7 +14,7 @@ use Rattle.series7.specs.declared.Family.{Family}
 use Rattle.series7.specs.declared.Family.the-variants.{O6, O5, Carry, Sum, Wide, Mux, Main, Second}
 
 -- a choice has what both sides have
-either : {A : Type 0} (P : A → Type 0) (t : Bool) {a b : A} → P a → P b → P (cond t a b)
+pub either : {A : Type 0} (P : A → Type 0) (t : Bool) {a b : A} → P a → P b → P (cond t a b)
 either P true p q = p
 either P false p q = q
 
@@ -33,7 +33,7 @@ module _ (n m s : ℕ) (body : List ℕ) (here : s < n) where
   abbrev In : Source → Type 0
   In = SourceFits n m
 
-  pin-fits : (p : ℕ) → In (pinSource n m body p)
+  pub pin-fits : (p : ℕ) → In (pinSource n m body p)
   unfolding pinSource
   pin-fits p =
       driver-cases (λ d. In (decodedSource d)) (pinCode body p) n m tt (λ b. tt) (λ j h. h)

@@ -77,7 +77,7 @@ fn decoded_source(d: Decoded) -> Source
 }
 
 // Where pin p of a slice takes its bit from.
-fn pin_source(n: usize, m: usize, body: &[u8], p: usize) -> Source
+pub fn pin_source(n: usize, m: usize, body: &[u8], p: usize) -> Source
     requires { ⌜ (length (now body) ≡ 124) × (p < 31) × (n ≤ columnLimit) ⌝ }
     ensures { λ r. ⌜ r ≡ pinSource n m (now (body .entry)) p ⌝ }
 {
@@ -85,7 +85,7 @@ fn pin_source(n: usize, m: usize, body: &[u8], p: usize) -> Source
 }
 
 // Signal k of slice s.
-fn own(s: usize, k: usize) -> Source
+pub fn own(s: usize, k: usize) -> Source
     requires { ⌜ (s < columnLimit) × (k < 32) ⌝ }
     ensures { λ r. ⌜ r ≡ own s k ⌝ }
 {
@@ -323,7 +323,7 @@ fn sum_gate(n: usize, m: usize, s: usize, body: &[u8], l: usize) -> Gate
     Gate::Xor(a, b)
 }
 
-fn wide_signal(l: usize) -> usize
+pub fn wide_signal(l: usize) -> usize
     ensures { λ r. ⌜ (r ≡ wideSignal l) × (r < 32) ⌝ }
 {
     if l == 0 {

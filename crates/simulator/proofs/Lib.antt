@@ -1,3 +1,4 @@
 pub mod Filling
 pub mod Lengths
 pub mod Calls
+pub mod Moving

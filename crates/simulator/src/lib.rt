@@ -4,11 +4,11 @@ ghost use Prim.Native.Nat.{_+_, _*_, _/_, _%_, _<_, _≤_};
 ghost use lib.ListN.{length, getD};
 ghost use Rattle.slicefile.specs.Format.{sliceLimit, mode};
 ghost use Rattle.column.specs.Check.{checkFile};
-ghost use Rattle.column.specs.Clock.{powerUp};
+ghost use Rattle.column.specs.Clock.{powerUp, clocked};
 ghost use Rattle.column.specs.File.{sliceBody};
 ghost use Rattle.column.specs.Judge.{Judged};
 ghost use Rattle.simulator.specs.Buffers.{badState, badLengths, badBytes, badWord, badWords, settleRefusal, editRefusal, badTable};
-ghost use Rattle.simulator.specs.Calls.{stateOf, refusalOf, Ready, PoweredUp, SettleCalled, InputEdited, TableEdited};
+ghost use Rattle.simulator.specs.Calls.{stateOf, refusalOf, Ready, PoweredUp, SettleCalled, ClockCalled, InputEdited, TableEdited};
 use column::Checked;
 use column::SLICE_NUMBERS;
 use column::TABLE_LIMIT;
@@ -30,7 +30,14 @@ fn bad_state(n: usize, contents: &[u64], flops: &[u8]) -> bool
 }
 
 // Whether any of the four buffers has another length than named.
-fn bad_lengths(n: usize, m: usize, contents: &[u64], flops: &[u8], inputs: &[u8], values: &[u8]) -> bool
+fn bad_lengths(
+    n: usize,
+    m: usize,
+    contents: &[u64],
+    flops: &[u8],
+    inputs: &[u8],
+    values: &[u8],
+) -> bool
     requires { ⌜ n ≤ sliceLimit ⌝ }
     ensures { λ r. ⌜ r ≡ badLengths n m (stateOf (now (contents .entry)) (now (flops .entry))) (now (inputs .entry)) (now (values .entry)) ⌝ }
 {
@@ -110,7 +117,13 @@ fn fill_flops(file: &[u8], n: usize, m: usize, flops: &mut [u8])
 }
 
 // Powers up an accepted file.
-fn power_up_accepted(file: &[u8], n: usize, m: usize, contents: &mut [u64], flops: &mut [u8]) -> Answer
+fn power_up_accepted(
+    file: &[u8],
+    n: usize,
+    m: usize,
+    contents: &mut [u64],
+    flops: &mut [u8],
+) -> Answer
     requires { ⌜ Judged (now file) (Verdict.Accepted n m) ⌝ }
     ensures { λ r. ⌜ PoweredUp (now (file .entry)) (stateOf (now (contents .entry)) (now (flops .entry))) (stateOf (now (contents .exit)) (now (flops .exit))) r ⌝ }
 {
@@ -137,7 +150,15 @@ pub fn power_up(file: &[u8], contents: &mut [u64], flops: &mut [u8]) -> Answer
 }
 
 // The refusal of settling and clocking a sound file's buffers, 0 where there is none.
-fn settle_refusal(file: &[u8], n: usize, m: usize, contents: &[u64], flops: &[u8], inputs: &[u8], values: &[u8]) -> usize
+fn settle_refusal(
+    file: &[u8],
+    n: usize,
+    m: usize,
+    contents: &[u64],
+    flops: &[u8],
+    inputs: &[u8],
+    values: &[u8],
+) -> usize
     requires { ⌜ checkFile (now file) ≡ Checked.Sound n m ⌝ }
     ensures { λ r. ⌜ r ≡ settleRefusal (now (file .entry)) (stateOf (now (contents .entry)) (now (flops .entry))) (now (inputs .entry)) (now (values .entry)) n m ⌝ }
 {
@@ -153,7 +174,17 @@ fn settle_refusal(file: &[u8], n: usize, m: usize, contents: &[u64], flops: &[u8
 }
 
 // Settles an accepted file.
-fn settle_accepted(file: &[u8], n: usize, m: usize, net: &[u16], order: &[u16], contents: &[u64], flops: &[u8], inputs: &[u8], values: &mut [u8]) -> Answer
+fn settle_accepted(
+    file: &[u8],
+    n: usize,
+    m: usize,
+    net: &[u16],
+    order: &[u16],
+    contents: &[u64],
+    flops: &[u8],
+    inputs: &[u8],
+    values: &mut [u8],
+) -> Answer
     requires { ⌜ Judged (now file) (Verdict.Accepted n m) × Ready (now file) n (now net) (now order) ⌝ }
     ensures { λ r. ⌜ SettleCalled (now (file .entry)) (stateOf (now (contents .entry)) (now (flops .entry))) (now (inputs .entry)) (now (values .entry)) (now (values .exit)) r ⌝ }
 {
@@ -166,7 +197,13 @@ fn settle_accepted(file: &[u8], n: usize, m: usize, net: &[u16], order: &[u16], 
 }
 
 // Fills 32n value bytes with the settled signals.
-pub fn settle(file: &[u8], contents: &[u64], flops: &[u8], inputs: &[u8], values: &mut [u8]) -> Answer
+pub fn settle(
+    file: &[u8],
+    contents: &[u64],
+    flops: &[u8],
+    inputs: &[u8],
+    values: &mut [u8],
+) -> Answer
     ensures { λ r. ⌜ SettleCalled (now (file .entry)) (stateOf (now (contents .entry)) (now (flops .entry))) (now (inputs .entry)) (now (values .entry)) (now (values .exit)) r ⌝ }
 {
     let mut net = [0u16; TABLE_LIMIT];
@@ -190,8 +227,94 @@ pub fn settle(file: &[u8], contents: &[u64], flops: &[u8], inputs: &[u8], values
     )
 }
 
+// Moves the state of a sound file over the clock edge, from the table settled before it.
+fn move_state(
+    file: &[u8],
+    n: usize,
+    m: usize,
+    inputs: &[u8],
+    values: &[u8],
+    contents: &mut [u64],
+    flops: &mut [u8],
+)
+    requires { ⌜ (checkFile (now file) ≡ Checked.Sound n m) × (length (now contents) ≡ 4 * n) × (length (now flops) ≡ n) ⌝ }
+    ensures { λ _. ⌜ stateOf (now (contents .exit)) (now (flops .exit)) ≡ clocked (now (file .entry)) (stateOf (now (contents .entry)) (now (flops .entry))) (now (inputs .entry)) (now (values .entry)) ⌝ }
+{
+    let mut s = 0;
+    while s < n {
+        let body = column::slice_body(file, n, m, s);
+        let numbers = edge::edge_of(n, m, s, body);
+        edge::move_slice(&numbers, s, inputs, values, contents, flops);
+        s += 1;
+    }
+}
+
+// Clocks an accepted file.
+fn clock_accepted(
+    file: &[u8],
+    n: usize,
+    m: usize,
+    net: &[u16],
+    order: &[u16],
+    contents: &mut [u64],
+    flops: &mut [u8],
+    inputs: &[u8],
+    values: &mut [u8],
+) -> Answer
+    requires { ⌜ Judged (now file) (Verdict.Accepted n m) × Ready (now file) n (now net) (now order) ⌝ }
+    ensures { λ r. ⌜ ClockCalled (now (file .entry)) (stateOf (now (contents .entry)) (now (flops .entry))) (stateOf (now (contents .exit)) (now (flops .exit))) (now (inputs .entry)) (now (values .entry)) (now (values .exit)) r ⌝ }
+{
+    let number = settle_refusal(file, n, m, contents, flops, inputs, values);
+    if number != 0 {
+        return Answer::Refused { number, place: 0 };
+    }
+    gates::settle_by(net, n, order, contents, flops, inputs, values);
+    move_state(file, n, m, inputs, values, contents, flops);
+    Answer::Done
+}
+
+// Fills 32n value bytes with the signals settled before the edge, and moves the contents and the flip-flops.
+pub fn clock(
+    file: &[u8],
+    contents: &mut [u64],
+    flops: &mut [u8],
+    inputs: &[u8],
+    values: &mut [u8],
+) -> Answer
+    ensures { λ r. ⌜ ClockCalled (now (file .entry)) (stateOf (now (contents .entry)) (now (flops .entry))) (stateOf (now (contents .exit)) (now (flops .exit))) (now (inputs .entry)) (now (values .entry)) (now (values .exit)) r ⌝ }
+{
+    let mut net = [0u16; TABLE_LIMIT];
+    let mut order = [0u16; SIGNAL_LIMIT];
+    let v = column::load(file, &mut net, &mut order);
+    let Verdict::Accepted { n, m } = v else {
+        return refusal(v);
+    };
+    let numbers = SLICE_NUMBERS * n;
+    let signals = 32 * n;
+    clock_accepted(
+        file,
+        n,
+        m,
+        &net[..numbers],
+        &order[..signals],
+        contents,
+        flops,
+        inputs,
+        values,
+    )
+}
+
 // The refusal of an edit of a sound file's buffers, whose own argument is bad or not, 0 where there is none.
-fn edit_refusal(bad: bool, file: &[u8], n: usize, m: usize, contents: &[u64], flops: &[u8], inputs: &[u8], values: &[u8]) -> usize
+fn edit_refusal(
+    bad: bool,
+    file: &[u8],
+    n: usize,
+    m: usize,
+    contents: &[u64],
+    flops: &[u8],
+    inputs: &[u8],
+    values: &[u8],
+) -> usize
     requires { ⌜ checkFile (now file) ≡ Checked.Sound n m ⌝ }
     ensures { λ r. ⌜ r ≡ editRefusal bad (now (file .entry)) (stateOf (now (contents .entry)) (now (flops .entry))) (now (inputs .entry)) (now (values .entry)) n m ⌝ }
 {
@@ -207,7 +330,19 @@ fn edit_refusal(bad: bool, file: &[u8], n: usize, m: usize, contents: &[u64], fl
 }
 
 // Edits an input of an accepted file.
-fn edit_input_accepted(file: &[u8], n: usize, m: usize, net: &[u16], order: &[u16], contents: &[u64], flops: &[u8], inputs: &mut [u8], values: &mut [u8], input: usize, byte: u8) -> Answer
+fn edit_input_accepted(
+    file: &[u8],
+    n: usize,
+    m: usize,
+    net: &[u16],
+    order: &[u16],
+    contents: &[u64],
+    flops: &[u8],
+    inputs: &mut [u8],
+    values: &mut [u8],
+    input: usize,
+    byte: u8,
+) -> Answer
     requires { ⌜ Judged (now file) (Verdict.Accepted n m) × Ready (now file) n (now net) (now order) ⌝ }
     ensures { λ r. ⌜ InputEdited (now (file .entry)) (stateOf (now (contents .entry)) (now (flops .entry))) input byte (now (inputs .entry)) (now (inputs .exit)) (now (values .entry)) (now (values .exit)) r ⌝ }
 {
@@ -220,12 +355,30 @@ fn edit_input_accepted(file: &[u8], n: usize, m: usize, net: &[u16], order: &[u1
     let mut changed = [0u8; INPUT_LIMIT];
     changed[input] = 1;
     let edited = [0u8; 1];
-    gates::edit_by(net, n, order, contents, flops, inputs, values, &changed, &edited);
+    gates::edit_by(
+        net,
+        n,
+        order,
+        contents,
+        flops,
+        inputs,
+        values,
+        &changed,
+        &edited,
+    );
     Answer::Done
 }
 
 // Sets an outside input, and recomputes the signals that depend on it.
-pub fn edit_input(file: &[u8], contents: &[u64], flops: &[u8], inputs: &mut [u8], values: &mut [u8], input: usize, byte: u8) -> Answer
+pub fn edit_input(
+    file: &[u8],
+    contents: &[u64],
+    flops: &[u8],
+    inputs: &mut [u8],
+    values: &mut [u8],
+    input: usize,
+    byte: u8,
+) -> Answer
     ensures { λ r. ⌜ InputEdited (now (file .entry)) (stateOf (now (contents .entry)) (now (flops .entry))) input byte (now (inputs .entry)) (now (inputs .exit)) (now (values .entry)) (now (values .exit)) r ⌝ }
 {
     let mut net = [0u16; TABLE_LIMIT];
@@ -263,7 +416,19 @@ fn bad_table(file: &[u8], n: usize, m: usize, table: usize, word: u64) -> bool
 }
 
 // Edits a table's contents of an accepted file.
-fn edit_table_accepted(file: &[u8], n: usize, m: usize, net: &[u16], order: &[u16], contents: &mut [u64], flops: &[u8], inputs: &[u8], values: &mut [u8], table: usize, word: u64) -> Answer
+fn edit_table_accepted(
+    file: &[u8],
+    n: usize,
+    m: usize,
+    net: &[u16],
+    order: &[u16],
+    contents: &mut [u64],
+    flops: &[u8],
+    inputs: &[u8],
+    values: &mut [u8],
+    table: usize,
+    word: u64,
+) -> Answer
     requires { ⌜ Judged (now file) (Verdict.Accepted n m) × Ready (now file) n (now net) (now order) ⌝ }
     ensures { λ r. ⌜ TableEdited (now (file .entry)) (now (contents .entry)) (now (contents .exit)) (now (flops .entry)) table word (now (inputs .entry)) (now (values .entry)) (now (values .exit)) r ⌝ }
 {
@@ -276,12 +441,30 @@ fn edit_table_accepted(file: &[u8], n: usize, m: usize, net: &[u16], order: &[u1
     let changed = [0u8; 1];
     let mut edited = [0u8; CONTENTS_LIMIT];
     edited[table] = 1;
-    gates::edit_by(net, n, order, contents, flops, inputs, values, &changed, &edited);
+    gates::edit_by(
+        net,
+        n,
+        order,
+        contents,
+        flops,
+        inputs,
+        values,
+        &changed,
+        &edited,
+    );
     Answer::Done
 }
 
 // Sets a table's contents, and recomputes the signals that depend on them. The table is numbered as its word.
-pub fn edit_table(file: &[u8], contents: &mut [u64], flops: &[u8], inputs: &[u8], values: &mut [u8], table: usize, word: u64) -> Answer
+pub fn edit_table(
+    file: &[u8],
+    contents: &mut [u64],
+    flops: &[u8],
+    inputs: &[u8],
+    values: &mut [u8],
+    table: usize,
+    word: u64,
+) -> Answer
     ensures { λ r. ⌜ TableEdited (now (file .entry)) (now (contents .entry)) (now (contents .exit)) (now (flops .entry)) table word (now (inputs .entry)) (now (values .entry)) (now (values .exit)) r ⌝ }
 {
     let mut net = [0u16; TABLE_LIMIT];

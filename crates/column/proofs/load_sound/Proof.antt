@@ -83,8 +83,7 @@ unfolding Says
 returns-2 c =
     let k = c .before .before .before .before .before .before in
     let s = k .before .before .before in
-    let o = subst (Says k) (c .enum-told .given .1) (k .compile .ensures .sorted) in
-    (
+    let o = subst (Says k) (c .enum-told .given .1) (k .compile .ensures .sorted) in (
       accepted (s .before .before .before .pre .0) (loop-free o),
       rw (take-at (k .compile .last .1 .1 .1 .0) _ _ (k .compile .kept .1 .1 .1 .0 ∙ numbers s)) (k .compile .ensures .lowered),
       rw (take-at (k .compile .last .1 .1 .1 .1 .0) _ _ (k .compile .kept .1 .1 .1 .1 .0 ∙ signals s)) o,

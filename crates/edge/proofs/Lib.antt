@@ -1,0 +1,6 @@
+pub mod Table
+pub mod Bits
+pub mod Byte
+pub mod Moving
+pub mod MemoryRule
+pub mod Laws
