@@ -16,6 +16,9 @@ pub record State : Type 0 where
   pub contents : List ℕ
   pub flops : List ℕ
 
+abbrev pub stateOf : List ℕ → List ℕ → State
+stateOf contents flops = record { contents = contents; flops = flops }
+
 -- what the rules take besides the value table: the state and the outside inputs
 abbrev pub envOf : State → List ℕ → Env
 envOf st inputs = env (st .contents) (st .flops) inputs

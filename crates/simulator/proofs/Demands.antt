@@ -1,6 +1,6 @@
 -- What the promises of the calls come to: each settles its answer and every byte it leaves; calls of clock make a run; and an edited table that was
 -- settled is the table settled afresh. Assumes nothing.
-use mathlib.Core.Path.{_≡_, _∙_, refl, sym, ap, subst}
+use mathlib.Core.Path.{_≡_, _∙_, refl, sym, ap}
 use mathlib.Core.Bool.{Bool}
 use mathlib.Core.List.{List}
 use Prim.Native.Nat.{ℕ, suc, _<_}
@@ -13,7 +13,7 @@ use Rattle.netlist.proofs.Net.{one-edited, input-edited, contents-edited}
 use Rattle.slicefile.specs.Rules.{given}
 use Rattle.slicefile.specs.declared.Answer.{Answer}
 use Rattle.slicefile.specs.declared.Answer.the-variants.{Refused as AnswerRefused, Done}
-use Rattle.column.specs.Clock.{State, envOf, powerUp, clocked, SettledFor, Run}
+use Rattle.column.specs.Clock.{stateOf, State, envOf, clocked, SettledFor, Run}
 use Rattle.column.specs.File.{sliceCount, signalCount, gateAt}
 use Rattle.column.specs.Judge.{readsAt, Judged}
 use Rattle.column.specs.declared.Verdict.{Verdict}
@@ -21,9 +21,9 @@ use Rattle.column.specs.declared.Verdict.the-variants.{Refused, Accepted}
 use Rattle.column.proofs.Netlist.{sound-well-formed, settles-once}
 use Rattle.column.proofs.SoundLaws.{sound-file}
 use Rattle.column.proofs.Verdicts.{judged-unique, accepted-sound, accepted-free}
-use Rattle.simulator.specs.Buffers.{badState, settleRefusal, editRefusal, badInput, badTable}
-use Rattle.simulator.specs.Calls.{Called, judged, refused, done, stateOf, PoweredUp, SettleCalled, ClockCalled, EditedFor, InputEdited, TableEdited}
-use Rattle.simulator.proofs.Lengths.{edit-lengths}
+use Rattle.buffers.specs.Buffers.{badState, settleRefusal, editRefusal, badInput, badTable}
+use Rattle.simulator.specs.Calls.{Called, judged, refused, done, PoweredUp, SettleCalled, ClockCalled, EditedFor, InputEdited, TableEdited}
+use Rattle.buffers.proofs.Lengths.{edit-lengths}
 
 -- ---- the answer
 

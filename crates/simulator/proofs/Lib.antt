@@ -1,5 +1,4 @@
 pub mod Filling
-pub mod Lengths
 pub mod Calls
 pub mod Moving
 pub mod Demands

@@ -1,10 +1,10 @@
 -- The state of a file while its slices move, one after another: what has moved is what the clock leaves, from the state before the edge, and the
 -- rest is as it was. Assumes nothing.
-use mathlib.Core.Path.{_≡_, _∙_, refl, sym, ap, ap₂}
+use mathlib.Core.Path.{_≡_, _∙_, refl, ap, ap₂}
 use mathlib.Core.Logic.{inl, inr}
 use mathlib.Core.Bool.{false}
 use mathlib.Core.List.{List}
-use Prim.Native.Nat.{ℕ, _+_, _-_, _*_, _/_, _%_, _≤_, _<_}
+use Prim.Native.Nat.{ℕ, _+_, _*_, _/_, _%_, _≤_, _<_}
 use native.Mathlib.Decide.{decLt}
 use native.Mathlib.Omega.{arith}
 use lib.ListN.{length, getD, set, length-set}
@@ -12,16 +12,15 @@ use lib.Seq.{getD-set-other}
 use Rattle.netlist.specs.Rule.{valueOf}
 use Rattle.netlist.specs.declared.Source.the-variants.{Constant}
 use Rattle.slicefile.specs.Rules.{bodyRefusal, sliceRefusal, headerRefusal}
-use Rattle.slicefile.specs.Format.{sliceTag, bodyOf}
+use Rattle.slicefile.specs.Format.{sliceTag}
 use Rattle.slicefile.proofs.RecordLaws.{orElse-right}
 use Rattle.series7.specs.Edge.{nextFlops, nextWord}
 use Rattle.edge.specs.Moved.{Moved}
 use Rattle.edge.specs.Numbers.{edgeNumbers, flopsBy}
 use Rattle.edge.proofs.Laws.{flops-law, word-law}
-use Rattle.column.specs.Clock.{State, clocked}
-use Rattle.column.specs.File.{recordStart, sliceBody}
+use Rattle.column.specs.Clock.{stateOf, clocked}
+use Rattle.column.specs.File.{sliceBody}
 use Rattle.column.proofs.SoundLaws.{SoundFile}
-use Rattle.simulator.specs.Calls.{stateOf}
 use Rattle.simulator.proofs.Filling.{Filled, filled-next, filled-all}
 
 module _ (file : List ℕ) (n m : ℕ) (inputs values words bytes : List ℕ) where

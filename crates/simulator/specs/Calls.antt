@@ -12,13 +12,13 @@ use Rattle.netlist.specs.declared.Gate.{Gate}
 use Rattle.slicefile.specs.declared.Answer.{Answer}
 use Rattle.slicefile.specs.declared.Answer.the-variants.{Refused as AnswerRefused, Done}
 use Rattle.slicefile.specs.Rules.{given}
-use Rattle.column.specs.Clock.{State, envOf, powerUp, clocked, SettledFor}
+use Rattle.column.specs.Clock.{State, stateOf, envOf, powerUp, clocked, SettledFor}
 use Rattle.column.specs.Compile.{tableLength, Lowered}
 use Rattle.column.specs.File.{signalCount, gateAt}
 use Rattle.column.specs.Judge.{readsAt, Judged}
 use Rattle.column.specs.declared.Verdict.{Verdict}
 use Rattle.column.specs.declared.Verdict.the-variants.{Refused, Accepted}
-use Rattle.simulator.specs.Buffers.{badState, settleRefusal, editRefusal, badInput, badTable}
+use Rattle.buffers.specs.Buffers.{badState, settleRefusal, editRefusal, badInput, badTable}
 
 -- a call on a file, with its own refusal for n and m, what is so where nothing was written, and what is so where it was done
 pub data Called (file : List ℕ) (own : ℕ → ℕ → ℕ) (Kept : Type 0) (Did : ℕ → ℕ → Type 0) : Answer → Type 0 where
@@ -36,9 +36,6 @@ pub record Ready (file : List ℕ) (n : ℕ) (net order : List ℕ) : Type 0 whe
 abbrev pub refusalOf : Verdict → Answer
 refusalOf (Refused k p) = AnswerRefused k p
 refusalOf (Accepted n m) = Done
-
-abbrev pub stateOf : List ℕ → List ℕ → State
-stateOf contents flops = record { contents = contents; flops = flops }
 
 -- "power up (fills contents and flip-flops)"
 abbrev pub PoweredUp : List ℕ → State → State → Answer → Type 0

@@ -1,14 +1,11 @@
 // The calls on a slice file and lent buffers: power up, settle, clock, edit an input, edit a table's contents.
 ghost use mathlib.Core.Path.{_≡_};
-ghost use Prim.Native.Nat.{_+_, _*_, _/_, _%_, _<_, _≤_};
-ghost use lib.ListN.{length, getD};
-ghost use Rattle.slicefile.specs.Format.{sliceLimit, mode};
+ghost use Prim.Native.Nat.{};
+ghost use lib.ListN.{length};
 ghost use Rattle.column.specs.Check.{checkFile};
-ghost use Rattle.column.specs.Clock.{powerUp, clocked};
-ghost use Rattle.column.specs.File.{sliceBody};
+ghost use Rattle.column.specs.Clock.{stateOf, powerUp, clocked};
 ghost use Rattle.column.specs.Judge.{Judged};
-ghost use Rattle.simulator.specs.Buffers.{badState, badLengths, badBytes, badWord, badWords, settleRefusal, editRefusal, badTable};
-ghost use Rattle.simulator.specs.Calls.{stateOf, refusalOf, Ready, PoweredUp, SettleCalled, ClockCalled, InputEdited, TableEdited};
+ghost use Rattle.simulator.specs.Calls.{refusalOf, Ready, PoweredUp, SettleCalled, ClockCalled, InputEdited, TableEdited};
 use column::Checked;
 use column::SLICE_NUMBERS;
 use column::TABLE_LIMIT;
@@ -20,65 +17,6 @@ use slicefile::SLICE_LIMIT;
 
 // The most words of contents.
 const CONTENTS_LIMIT: usize = 4 * SLICE_LIMIT;
-
-// Whether the contents or the flip-flops have another length than n slices take.
-fn bad_state(n: usize, contents: &[u64], flops: &[u8]) -> bool
-    requires { ⌜ n ≤ sliceLimit ⌝ }
-    ensures { λ r. ⌜ r ≡ badState n (stateOf (now (contents .entry)) (now (flops .entry))) ⌝ }
-{
-    (contents.len() != 4 * n) | (flops.len() != n)
-}
-
-// Whether any of the four buffers has another length than named.
-fn bad_lengths(
-    n: usize,
-    m: usize,
-    contents: &[u64],
-    flops: &[u8],
-    inputs: &[u8],
-    values: &[u8],
-) -> bool
-    requires { ⌜ n ≤ sliceLimit ⌝ }
-    ensures { λ r. ⌜ r ≡ badLengths n m (stateOf (now (contents .entry)) (now (flops .entry))) (now (inputs .entry)) (now (values .entry)) ⌝ }
-{
-    bad_state(n, contents, flops) | (inputs.len() != m) | (values.len() != 32 * n)
-}
-
-// Whether a byte is neither 0 nor 1.
-fn bad_bytes(bytes: &[u8]) -> bool
-    ensures { λ r. ⌜ r ≡ badBytes (now (bytes .entry)) ⌝ }
-{
-    let mut found = false;
-    let mut i = 0;
-    while i < bytes.len() {
-        found = (1 < bytes[i]) | found;
-        i += 1;
-    }
-    found
-}
-
-// Whether a word has bits 32 to 63 set while table t of a sound file is in shift mode.
-fn bad_word(file: &[u8], n: usize, m: usize, t: usize, word: u64) -> bool
-    requires { ⌜ (checkFile (now file) ≡ Checked.Sound n m) × (t < 4 * n) ⌝ }
-    ensures { λ r. ⌜ r ≡ badWord (now (file .entry)) t word ⌝ }
-{
-    let body = column::slice_body(file, n, m, t / 4);
-    (body[2 + t % 4] == 2) & (4294967296 <= word)
-}
-
-// Whether any word does.
-fn bad_words(file: &[u8], n: usize, m: usize, contents: &[u64]) -> bool
-    requires { ⌜ (checkFile (now file) ≡ Checked.Sound n m) × (length (now contents) ≡ 4 * n) ⌝ }
-    ensures { λ r. ⌜ r ≡ badWords (now (file .entry)) (now (contents .entry)) ⌝ }
-{
-    let mut found = false;
-    let mut t = 0;
-    while t < contents.len() {
-        found = bad_word(file, n, m, t, contents[t]) | found;
-        t += 1;
-    }
-    found
-}
 
 // The judge's refusal as the answer of a call.
 fn refusal(v: Verdict) -> Answer
@@ -127,7 +65,7 @@ fn power_up_accepted(
     requires { ⌜ Judged (now file) (Verdict.Accepted n m) ⌝ }
     ensures { λ r. ⌜ PoweredUp (now (file .entry)) (stateOf (now (contents .entry)) (now (flops .entry))) (stateOf (now (contents .exit)) (now (flops .exit))) r ⌝ }
 {
-    if bad_state(n, contents, flops) {
+    if buffers::bad_state(n, contents, flops) {
         return Answer::Refused {
             number: 10,
             place: 0,
@@ -149,30 +87,6 @@ pub fn power_up(file: &[u8], contents: &mut [u64], flops: &mut [u8]) -> Answer
     power_up_accepted(file, n, m, contents, flops)
 }
 
-// The refusal of settling and clocking a sound file's buffers, 0 where there is none.
-fn settle_refusal(
-    file: &[u8],
-    n: usize,
-    m: usize,
-    contents: &[u64],
-    flops: &[u8],
-    inputs: &[u8],
-    values: &[u8],
-) -> usize
-    requires { ⌜ checkFile (now file) ≡ Checked.Sound n m ⌝ }
-    ensures { λ r. ⌜ r ≡ settleRefusal (now (file .entry)) (stateOf (now (contents .entry)) (now (flops .entry))) (now (inputs .entry)) (now (values .entry)) n m ⌝ }
-{
-    if bad_lengths(n, m, contents, flops, inputs, values) {
-        return 10;
-    }
-    let bytes = bad_bytes(inputs);
-    let words = bad_words(file, n, m, contents);
-    if bytes | words {
-        return 11;
-    }
-    0
-}
-
 // Settles an accepted file.
 fn settle_accepted(
     file: &[u8],
@@ -188,9 +102,12 @@ fn settle_accepted(
     requires { ⌜ Judged (now file) (Verdict.Accepted n m) × Ready (now file) n (now net) (now order) ⌝ }
     ensures { λ r. ⌜ SettleCalled (now (file .entry)) (stateOf (now (contents .entry)) (now (flops .entry))) (now (inputs .entry)) (now (values .entry)) (now (values .exit)) r ⌝ }
 {
-    let number = settle_refusal(file, n, m, contents, flops, inputs, values);
-    if number != 0 {
-        return Answer::Refused { number, place: 0 };
+    let own = buffers::settle_refusal(file, n, m, contents, flops, inputs, values);
+    if own != 0 {
+        return Answer::Refused {
+            number: own,
+            place: 0,
+        };
     }
     gates::settle_by(net, n, order, contents, flops, inputs, values);
     Answer::Done
@@ -264,7 +181,7 @@ fn clock_accepted(
     requires { ⌜ Judged (now file) (Verdict.Accepted n m) × Ready (now file) n (now net) (now order) ⌝ }
     ensures { λ r. ⌜ ClockCalled (now (file .entry)) (stateOf (now (contents .entry)) (now (flops .entry))) (stateOf (now (contents .exit)) (now (flops .exit))) (now (inputs .entry)) (now (values .entry)) (now (values .exit)) r ⌝ }
 {
-    let number = settle_refusal(file, n, m, contents, flops, inputs, values);
+    let number = buffers::settle_refusal(file, n, m, contents, flops, inputs, values);
     if number != 0 {
         return Answer::Refused { number, place: 0 };
     }
@@ -304,31 +221,6 @@ pub fn clock(
     )
 }
 
-// The refusal of an edit of a sound file's buffers, whose own argument is bad or not, 0 where there is none.
-fn edit_refusal(
-    bad: bool,
-    file: &[u8],
-    n: usize,
-    m: usize,
-    contents: &[u64],
-    flops: &[u8],
-    inputs: &[u8],
-    values: &[u8],
-) -> usize
-    requires { ⌜ checkFile (now file) ≡ Checked.Sound n m ⌝ }
-    ensures { λ r. ⌜ r ≡ editRefusal bad (now (file .entry)) (stateOf (now (contents .entry)) (now (flops .entry))) (now (inputs .entry)) (now (values .entry)) n m ⌝ }
-{
-    if bad_lengths(n, m, contents, flops, inputs, values) {
-        return 10;
-    }
-    let bytes = bad_bytes(inputs) | bad_bytes(values);
-    let words = bad_words(file, n, m, contents);
-    if bytes | words | bad {
-        return 11;
-    }
-    0
-}
-
 // Edits an input of an accepted file.
 fn edit_input_accepted(
     file: &[u8],
@@ -347,7 +239,7 @@ fn edit_input_accepted(
     ensures { λ r. ⌜ InputEdited (now (file .entry)) (stateOf (now (contents .entry)) (now (flops .entry))) input byte (now (inputs .entry)) (now (inputs .exit)) (now (values .entry)) (now (values .exit)) r ⌝ }
 {
     let bad = (m <= input) | (1 < byte);
-    let number = edit_refusal(bad, file, n, m, contents, flops, inputs, values);
+    let number = buffers::edit_refusal(bad, file, n, m, contents, flops, inputs, values);
     if number != 0 {
         return Answer::Refused { number, place: 0 };
     }
@@ -404,17 +296,6 @@ pub fn edit_input(
     )
 }
 
-// Whether a table is not there, or its mode does not allow the word.
-fn bad_table(file: &[u8], n: usize, m: usize, table: usize, word: u64) -> bool
-    requires { ⌜ checkFile (now file) ≡ Checked.Sound n m ⌝ }
-    ensures { λ r. ⌜ r ≡ badTable (now (file .entry)) n table word ⌝ }
-{
-    if 4 * n <= table {
-        return true;
-    }
-    bad_word(file, n, m, table, word)
-}
-
 // Edits a table's contents of an accepted file.
 fn edit_table_accepted(
     file: &[u8],
@@ -432,8 +313,8 @@ fn edit_table_accepted(
     requires { ⌜ Judged (now file) (Verdict.Accepted n m) × Ready (now file) n (now net) (now order) ⌝ }
     ensures { λ r. ⌜ TableEdited (now (file .entry)) (now (contents .entry)) (now (contents .exit)) (now (flops .entry)) table word (now (inputs .entry)) (now (values .entry)) (now (values .exit)) r ⌝ }
 {
-    let bad = bad_table(file, n, m, table, word);
-    let number = edit_refusal(bad, file, n, m, contents, flops, inputs, values);
+    let bad = buffers::bad_table(file, n, m, table, word);
+    let number = buffers::edit_refusal(bad, file, n, m, contents, flops, inputs, values);
     if number != 0 {
         return Answer::Refused { number, place: 0 };
     }

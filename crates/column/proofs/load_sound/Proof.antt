@@ -1,6 +1,6 @@
 -- `column::load_sound` meets its contract: a signal on a loop is refused, and an order shows that there is none. Assumes nothing.
 use mathlib.Core.Path.{_≡_, _∙_, sym, subst}
-use Prim.Native.Nat.{_*_, _≤_}
+use Prim.Native.Nat.{_≤_}
 use native.Mathlib.Omega.{arith}
 use borrow.Author.Needs.{needs}
 use lib.ListN.{length, take}

@@ -4,7 +4,7 @@ use mathlib.Core.List.{List}
 use Prim.Native.Nat.{ℕ, _≤_, _-_}
 use native.Mathlib.Omega.{arith}
 use borrow.Author.Needs.{needs}
-use lib.ListN.{length, getD, length-set}
+use lib.ListN.{length, length-set}
 use Rattle.slicefile.specs.Format.{powerUpBits}
 use Rattle.column.specs.Clock.{powerUp}
 use Rattle.column.specs.File.{sliceBody}

@@ -5,9 +5,10 @@ use borrow.Author.Needs.{needs}
 use Rattle.slicefile.specs.Rules.{given}
 use Rattle.column.proofs.Verdicts.{accepted-sound}
 use Rattle.column.proofs.SoundLaws.{SoundFile, sound-file}
-use Rattle.simulator.specs.Calls.{stateOf, refused, done}
-use Rattle.simulator.specs.Buffers.{badState}
-use Rattle.simulator.proofs.Lengths.{state-lengths}
+use Rattle.column.specs.Clock.{stateOf}
+use Rattle.simulator.specs.Calls.{refused, done}
+use Rattle.buffers.specs.Buffers.{badState}
+use Rattle.buffers.proofs.Lengths.{state-lengths}
 use Rattle.simulator.proofs.power_up_accepted.Statement.{statement}
 use Rattle.simulator.proofs.power_up_accepted.Tie as tie
 

@@ -11,7 +11,7 @@ use Rattle.slicefile.proofs.RecordLaws.{given-none, orElse-left, orElse-right}
 use Rattle.slicefile.proofs.Tests.{or-left, or-right}
 use Rattle.column.specs.Clock.{State}
 use Rattle.column.specs.File.{signalCount}
-use Rattle.simulator.specs.Buffers.{badState, badLengths, badBytes, badWords, settleRefusal, editRefusal}
+use Rattle.buffers.specs.Buffers.{badState, badLengths, badBytes, badWords, settleRefusal, editRefusal}
 
 same : (a b : ℕ) → not (eqb a b) ≡ false → a ≡ b
 same a b e = eqb-true a b (not-false (eqb a b) e)

@@ -1,4 +1,4 @@
--- `simulator::bad_words` meets its contract. The loop's invariant: `found` says whether a word before t is bad. Assumes nothing.
+-- `buffers::bad_words` meets its contract. The loop's invariant: `found` says whether a word before t is bad. Assumes nothing.
 use mathlib.Core.Path.{_≡_, refl}
 use mathlib.Core.Bool.{Bool}
 use mathlib.Core.List.{List}
@@ -8,9 +8,9 @@ use borrow.Author.Needs.{needs}
 use lib.ListN.{length, getD}
 use Rattle.slicefile.specs.Lists.{anyBelow}
 use Rattle.slicefile.proofs.Tests.{any-next}
-use Rattle.simulator.specs.Buffers.{badWord, badWords}
-use Rattle.simulator.proofs.bad_words.Statement.{statement}
-use Rattle.simulator.proofs.bad_words.Tie as tie
+use Rattle.buffers.specs.Buffers.{badWord, badWords}
+use Rattle.buffers.proofs.bad_words.Statement.{statement}
+use Rattle.buffers.proofs.bad_words.Tie as tie
 
 abbrev bad : List ℕ → List ℕ → ℕ → Bool
 bad file contents t = badWord file t (getD contents t 0)

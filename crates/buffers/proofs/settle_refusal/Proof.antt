@@ -1,13 +1,12 @@
--- `simulator::settle_refusal` meets its contract: each `return` is the first refusal whose test passes. Assumes nothing.
-use mathlib.Core.Path.{_≡_, _∙_, sym}
-use mathlib.Core.Bool.{false}
+-- `buffers::settle_refusal` meets its contract: each `return` is the first refusal whose test passes. Assumes nothing.
+use mathlib.Core.Path.{_∙_, sym}
 use borrow.Author.Needs.{needs}
 use Rattle.column.proofs.SoundLaws.{sound-file}
-use Rattle.simulator.specs.Buffers.{badLengths, settleRefusal}
-use Rattle.simulator.specs.Calls.{stateOf}
-use Rattle.simulator.proofs.Lengths.{Lengths, lengths}
-use Rattle.simulator.proofs.settle_refusal.Statement.{statement}
-use Rattle.simulator.proofs.settle_refusal.Tie as tie
+use Rattle.buffers.specs.Buffers.{settleRefusal}
+use Rattle.column.specs.Clock.{stateOf}
+use Rattle.buffers.proofs.Lengths.{Lengths, lengths}
+use Rattle.buffers.proofs.settle_refusal.Statement.{statement}
+use Rattle.buffers.proofs.settle_refusal.Tie as tie
 
 bad-lengths-requires : tie.Need-bad-lengths-requires
 bad-lengths-requires c κs =

@@ -1,13 +1,13 @@
--- `simulator::bad_word` meets its contract. Assumes nothing.
-use mathlib.Core.Path.{_≡_, _∙_, ap}
+-- `buffers::bad_word` meets its contract. Assumes nothing.
+use mathlib.Core.Path.{ap}
 use Prim.Native.Nat.{_/_}
 use native.Mathlib.Omega.{arith}
 use borrow.Author.Needs.{needs}
 use lib.ListN.{length}
 use Rattle.column.proofs.SoundLaws.{sound-file, body-length}
-use Rattle.simulator.specs.Buffers.{badWord}
-use Rattle.simulator.proofs.bad_word.Statement.{statement}
-use Rattle.simulator.proofs.bad_word.Tie as tie
+use Rattle.buffers.specs.Buffers.{badWord}
+use Rattle.buffers.proofs.bad_word.Statement.{statement}
+use Rattle.buffers.proofs.bad_word.Tie as tie
 
 slice-body-requires : tie.Need-slice-body-requires
 slice-body-requires c κs = search needs

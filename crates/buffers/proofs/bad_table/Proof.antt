@@ -1,10 +1,10 @@
--- `simulator::bad_table` meets its contract. Assumes nothing.
+-- `buffers::bad_table` meets its contract. Assumes nothing.
 use native.Mathlib.Omega.{arith}
 use borrow.Author.Needs.{needs}
 use borrow.Author.Tests.{le-leb, lt-leb}
 use Rattle.column.proofs.SoundLaws.{sound-file}
-use Rattle.simulator.proofs.bad_table.Statement.{statement}
-use Rattle.simulator.proofs.bad_table.Tie as tie
+use Rattle.buffers.proofs.bad_table.Statement.{statement}
+use Rattle.buffers.proofs.bad_table.Tie as tie
 
 mul-if1 : tie.Need-mul-if1
 mul-if1 c = omega (arith, sound-file (c .before .args .file .now) (c .before .pre) .slices-fit)

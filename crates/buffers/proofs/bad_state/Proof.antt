@@ -1,9 +1,9 @@
--- `simulator::bad_state` meets its contract. Assumes nothing.
+-- `buffers::bad_state` meets its contract. Assumes nothing.
 use mathlib.Core.Path.{refl}
 use borrow.Author.Needs.{needs}
-use Rattle.simulator.specs.Buffers.{badState}
-use Rattle.simulator.proofs.bad_state.Statement.{statement}
-use Rattle.simulator.proofs.bad_state.Tie as tie
+use Rattle.buffers.specs.Buffers.{badState}
+use Rattle.buffers.proofs.bad_state.Statement.{statement}
+use Rattle.buffers.proofs.bad_state.Tie as tie
 
 mul-result : tie.Need-mul-result
 mul-result c = search needs

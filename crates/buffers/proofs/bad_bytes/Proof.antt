@@ -1,4 +1,4 @@
--- `simulator::bad_bytes` meets its contract. The loop's invariant: `found` says whether a byte before i is bad. Assumes nothing.
+-- `buffers::bad_bytes` meets its contract. The loop's invariant: `found` says whether a byte before i is bad. Assumes nothing.
 use mathlib.Core.Path.{_≡_, refl}
 use mathlib.Core.Bool.{Bool}
 use mathlib.Core.List.{List}
@@ -9,9 +9,9 @@ use lib.Dec.{ltb}
 use lib.ListN.{length, getD}
 use Rattle.slicefile.specs.Lists.{anyBelow}
 use Rattle.slicefile.proofs.Tests.{any-next}
-use Rattle.simulator.specs.Buffers.{badBytes}
-use Rattle.simulator.proofs.bad_bytes.Statement.{statement}
-use Rattle.simulator.proofs.bad_bytes.Tie as tie
+use Rattle.buffers.specs.Buffers.{badBytes}
+use Rattle.buffers.proofs.bad_bytes.Statement.{statement}
+use Rattle.buffers.proofs.bad_bytes.Tie as tie
 
 abbrev bad : List ℕ → ℕ → Bool
 bad bytes i = ltb 1 (getD bytes i 0)

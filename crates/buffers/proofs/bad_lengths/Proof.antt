@@ -1,8 +1,8 @@
--- `simulator::bad_lengths` meets its contract. Assumes nothing.
+-- `buffers::bad_lengths` meets its contract. Assumes nothing.
 use borrow.Author.Needs.{needs}
-use Rattle.simulator.specs.Buffers.{badLengths}
-use Rattle.simulator.proofs.bad_lengths.Statement.{statement}
-use Rattle.simulator.proofs.bad_lengths.Tie as tie
+use Rattle.buffers.specs.Buffers.{badLengths}
+use Rattle.buffers.proofs.bad_lengths.Statement.{statement}
+use Rattle.buffers.proofs.bad_lengths.Tie as tie
 
 bad-state-requires : tie.Need-bad-state-requires
 bad-state-requires c κs = search needs
