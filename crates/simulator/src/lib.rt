@@ -1,6 +1,6 @@
 // The calls on a slice file and lent buffers: power up, settle, clock, edit an input, edit a table's contents.
 ghost use mathlib.Core.Path.{_≡_};
-ghost use Prim.Native.Nat.{};
+ghost use Prim.Native.Nat.{_*_};
 ghost use lib.ListN.{length};
 ghost use Rattle.column.specs.Check.{checkFile};
 ghost use Rattle.column.specs.Clock.{stateOf, powerUp, clocked};
