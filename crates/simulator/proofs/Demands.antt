@@ -3,7 +3,7 @@
 use mathlib.Core.Path.{_≡_, _∙_, refl, sym, ap}
 use mathlib.Core.Bool.{Bool}
 use mathlib.Core.List.{List}
-use Prim.Native.Nat.{ℕ, suc, _<_}
+use Prim.Native.Nat.{ℕ, suc, _≤_, _<_}
 use native.Mathlib.Omega.{arith}
 use lib.ListN.{length, set}
 use Rattle.netlist.specs.Graph.{WellFormed}
@@ -19,6 +19,7 @@ use Rattle.column.specs.Judge.{readsAt, Judged}
 use Rattle.column.specs.declared.Verdict.{Verdict}
 use Rattle.column.specs.declared.Verdict.the-variants.{Refused, Accepted}
 use Rattle.column.proofs.Netlist.{sound-well-formed, settles-once}
+use Rattle.column.proofs.Runs.{run-unique}
 use Rattle.column.proofs.SoundLaws.{sound-file}
 use Rattle.column.proofs.Verdicts.{judged-unique, accepted-sound, accepted-free}
 use Rattle.buffers.specs.Buffers.{badState, settleRefusal, editRefusal, badInput, badTable}
@@ -126,6 +127,10 @@ clocks-run file states inputs olds tables K each =
       settled = λ k l. called-done file _ (each k l) .4 .1;
       moves = λ k l. called-done file _ (each k l) .4 .0;
     }
+
+pub run-determined : (file : List ℕ) {n m : ℕ} → Judged file (Accepted n m) → {start : State} {inputs : ℕ → List ℕ} {K : ℕ} (r r′ : Run file start inputs K) (k : ℕ) → k ≤ K
+    → r .states k ≡ r′ .states k
+run-determined file j r r′ k l = run-unique file (settled-once file j) r r′ k l
 
 -- ---- demand 3: "if the table was settled before .. each byte of the table as left equals that of the table settled afresh after the change". That what
 -- doesn't depend on the change keeps its byte, and what does holds its rule, on any table, is `Edited` itself
