@@ -1,0 +1,27 @@
+-- The record calls by the body of a record: 124 bytes, "the record's fields in the file's layout"; another length is 10, first of all.
+use Prim.Native.Nat.{ℕ}
+use mathlib.Core.Bool.{Bool, not}
+use mathlib.Core.List.{List}
+use lib.Dec.{eqb}
+use lib.ListN.{length}
+use Rattle.slicefile.specs.Format.{sliceTag, bodyLength}
+use Rattle.slicefile.specs.Rules.{given, _orElse_}
+use Rattle.records.specs.Record.{recordOf, bodyBytes}
+use Rattle.records.specs.Calls.{readRefusal, writeRefusal, unless, readRecord, written}
+
+abbrev pub badBody : List ℕ → Bool
+badBody body = not (eqb (length body) (bodyLength sliceTag))
+
+-- reading a record into a body: the refusal, and the body it leaves, filled "from the record that was read (unchanged on refusal)"
+unfoldable pub readBodyRefusal : List ℕ → ℕ → ℕ → List ℕ → ℕ
+readBodyRefusal s n m body = given 10 (badBody body) orElse readRefusal s n m
+
+unfoldable pub bodyRead : List ℕ → ℕ → ℕ → List ℕ → List ℕ
+bodyRead s n m body = unless (readBodyRefusal s n m body) (bodyBytes (readRecord s n m .slice)) body
+
+-- writing the record of a body: the refusal, and the part it leaves
+unfoldable pub writeBodyRefusal : List ℕ → ℕ → ℕ → List ℕ → ℕ
+writeBodyRefusal body n m part = given 10 (badBody body) orElse writeRefusal (recordOf body) n m (length part)
+
+unfoldable pub bodyWritten : List ℕ → ℕ → ℕ → List ℕ → List ℕ
+bodyWritten body n m part = unless (given 10 (badBody body)) (written (recordOf body) n m part) part

@@ -1,0 +1,192 @@
+// The exported library: each call takes slices and numbers, and answers one number, the answer of the call below it, packed.
+ghost use mathlib.Core.Path.{_≡_};
+ghost use mathlib.Core.List.{[], _∷_, _++_};
+ghost use Prim.Native.Nat.{_≤_};
+ghost use lib.ListN.{length};
+ghost use Rattle.slicefile.specs.Format.{sliceTag, bodyLength};
+ghost use Rattle.column.specs.Clock.{stateOf};
+ghost use Rattle.column.specs.Judge.{Judged};
+ghost use Rattle.simulator.specs.Calls.{PoweredUp, SettleCalled, ClockCalled, InputEdited, TableEdited};
+ghost use Rattle.records.specs.Record.{recordOf, bodyBytes};
+ghost use Rattle.records.specs.Calls.{readRefusal, writeRefusal, answerOf, unless, readRecord, written};
+ghost use Rattle.quagmuffin.specs.Bodies.{readBodyRefusal, bodyRead, writeBodyRefusal, bodyWritten};
+ghost use Rattle.quagmuffin.specs.Packed.{pack, packAnswer, packVerdict, SmallAnswer, SmallVerdict, Packed, Answered};
+use column::Verdict;
+use slicefile::Answer;
+use slicefile::HEAD;
+use slicefile::SLICE_BODY;
+use slicefile::SLICE_RECORD;
+
+// A number in the low 8 bits, and what stands above it.
+fn pack_number(number: usize, above: usize) -> u64
+    requires { ⌜ (number ≤ 11) × (above ≤ 16777216) ⌝ }
+    ensures { λ r. ⌜ r ≡ pack number above ⌝ }
+{
+    (number + 256 * above) as u64
+}
+
+// A call's answer.
+fn pack_answer(answer: Answer) -> u64
+    requires { ⌜ SmallAnswer answer ⌝ }
+    ensures { λ r. ⌜ r ≡ packAnswer answer ⌝ }
+{
+    match answer {
+        Answer::Refused { number, place } => pack_number(number, place),
+        Answer::Done => 0,
+    }
+}
+
+// The judge's answer.
+fn pack_verdict(verdict: Verdict) -> u64
+    requires { ⌜ SmallVerdict verdict ⌝ }
+    ensures { λ r. ⌜ r ≡ packVerdict verdict ⌝ }
+{
+    match verdict {
+        Verdict::Refused { number, place } => pack_number(number, place),
+        Verdict::Accepted { n, m } => pack_number(0, n + 65536 * m),
+    }
+}
+
+// Judges any bytes.
+#[no_mangle]
+pub extern "C" fn qm_judge(file: &[u8]) -> u64
+    ensures { λ r. ⌜ Packed packVerdict (Judged (now (file .entry))) r ⌝ }
+{
+    pack_verdict(column::judge(file))
+}
+
+// Fills 4n words of contents and n flip-flop bytes with the state at power-up.
+#[no_mangle]
+pub extern "C" fn qm_power_up(file: &[u8], contents: &mut [u64], flops: &mut [u8]) -> u64
+    ensures { λ r. ⌜ Answered (PoweredUp (now (file .entry)) (stateOf (now (contents .entry)) (now (flops .entry))) (stateOf (now (contents .exit)) (now (flops .exit)))) r ⌝ }
+{
+    pack_answer(simulator::power_up(file, contents, flops))
+}
+
+// Fills 32n value bytes with the settled signals.
+#[no_mangle]
+pub extern "C" fn qm_settle(
+    file: &[u8],
+    contents: &[u64],
+    flops: &[u8],
+    inputs: &[u8],
+    values: &mut [u8],
+) -> u64
+    ensures { λ r. ⌜ Answered (SettleCalled (now (file .entry)) (stateOf (now (contents .entry)) (now (flops .entry))) (now (inputs .entry)) (now (values .entry)) (now (values .exit))) r ⌝ }
+{
+    pack_answer(simulator::settle(file, contents, flops, inputs, values))
+}
+
+// Fills 32n value bytes with the signals settled before the edge, and moves the contents and the flip-flops.
+#[no_mangle]
+pub extern "C" fn qm_clock(
+    file: &[u8],
+    contents: &mut [u64],
+    flops: &mut [u8],
+    inputs: &[u8],
+    values: &mut [u8],
+) -> u64
+    ensures { λ r. ⌜ Answered (ClockCalled (now (file .entry)) (stateOf (now (contents .entry)) (now (flops .entry))) (stateOf (now (contents .exit)) (now (flops .exit))) (now (inputs .entry)) (now (values .entry)) (now (values .exit))) r ⌝ }
+{
+    pack_answer(simulator::clock(file, contents, flops, inputs, values))
+}
+
+// Sets an outside input, and recomputes the signals that depend on it.
+#[no_mangle]
+pub extern "C" fn qm_edit_input(
+    file: &[u8],
+    contents: &[u64],
+    flops: &[u8],
+    inputs: &mut [u8],
+    values: &mut [u8],
+    input: usize,
+    byte: u8,
+) -> u64
+    ensures { λ r. ⌜ Answered (InputEdited (now (file .entry)) (stateOf (now (contents .entry)) (now (flops .entry))) input byte (now (inputs .entry)) (now (inputs .exit)) (now (values .entry)) (now (values .exit))) r ⌝ }
+{
+    pack_answer(simulator::edit_input(file, contents, flops, inputs, values, input, byte))
+}
+
+// Sets a table's contents, and recomputes the signals that depend on them. The table is numbered as its word.
+#[no_mangle]
+pub extern "C" fn qm_edit_table(
+    file: &[u8],
+    contents: &mut [u64],
+    flops: &[u8],
+    inputs: &[u8],
+    values: &mut [u8],
+    table: usize,
+    word: u64,
+) -> u64
+    ensures { λ r. ⌜ Answered (TableEdited (now (file .entry)) (now (contents .entry)) (now (contents .exit)) (now (flops .entry)) table word (now (inputs .entry)) (now (values .entry)) (now (values .exit))) r ⌝ }
+{
+    pack_answer(simulator::edit_table(file, contents, flops, inputs, values, table, word))
+}
+
+// Reads a record, and fills a body with its fields.
+fn read_body(bytes: &[u8], n: usize, m: usize, body: &mut [u8]) -> Answer
+    requires { ⌜ length (now body) ≡ bodyLength sliceTag ⌝ }
+    ensures { λ r. ⌜ (r ≡ answerOf (readRefusal (now (bytes .entry)) n m)) × (now (body .exit) ≡ unless (readRefusal (now (bytes .entry)) n m) (bodyBytes (readRecord (now (bytes .entry)) n m .slice)) (now (body .entry))) ⌝ }
+{
+    let reading = records::read_record(bytes, n, m);
+    let answer = reading.answer;
+    let Answer::Done = answer else {
+        return answer;
+    };
+    records::put_bytes(body, 0, &bytes[HEAD..SLICE_RECORD]);
+    Answer::Done
+}
+
+// Reads one slice record, of 127 bytes, of a file of n slices and m outside inputs, into a body of 124 bytes.
+#[no_mangle]
+pub extern "C" fn qm_read_record(bytes: &[u8], n: usize, m: usize, body: &mut [u8]) -> u64
+    ensures { λ r. ⌜ (r ≡ packAnswer (answerOf (readBodyRefusal (now (bytes .entry)) n m (now (body .entry))))) × (now (body .exit) ≡ bodyRead (now (bytes .entry)) n m (now (body .entry))) ⌝ }
+{
+    if body.len() != SLICE_BODY {
+        return 10;
+    }
+    pack_answer(read_body(bytes, n, m, body))
+}
+
+// The bytes of the record with a body: tag, length, body.
+fn record_bytes(body: &[u8]) -> [u8; SLICE_RECORD]
+    requires { ⌜ length (now body) ≡ bodyLength sliceTag ⌝ }
+    ensures { λ r. ⌜ r ≡ (sliceTag ∷ bodyLength sliceTag ∷ 0 ∷ []) ++ now (body .entry) ⌝ }
+{
+    let mut bytes = [0u8; SLICE_RECORD];
+    records::put_bytes(&mut bytes, 0, &[2, 124, 0]);
+    records::put_bytes(&mut bytes, HEAD, body);
+    bytes
+}
+
+// Writes the record with a body.
+fn write_body(body: &[u8], n: usize, m: usize, part: &mut [u8]) -> Answer
+    requires { ⌜ length (now body) ≡ bodyLength sliceTag ⌝ }
+    ensures { λ r. ⌜ (r ≡ answerOf (writeRefusal (recordOf (now (body .entry))) n m (length (now (part .entry))))) × (now (part .exit) ≡ written (recordOf (now (body .entry))) n m (now (part .entry))) ⌝ }
+{
+    if part.len() < SLICE_RECORD {
+        return Answer::Refused {
+            number: 10,
+            place: 0,
+        };
+    }
+    let bytes = record_bytes(body);
+    let reading = records::read_record(&bytes, n, m);
+    let answer = reading.answer;
+    let Answer::Done = answer else {
+        return answer;
+    };
+    let slice = reading.slice;
+    records::write_record(slice, n, m, part)
+}
+
+// Writes the record with a body of 124 bytes into the first 127 bytes of a part of a file of n slices and m outside inputs.
+#[no_mangle]
+pub extern "C" fn qm_write_record(body: &[u8], n: usize, m: usize, part: &mut [u8]) -> u64
+    ensures { λ r. ⌜ (r ≡ packAnswer (answerOf (writeBodyRefusal (now (body .entry)) n m (now (part .entry))))) × (now (part .exit) ≡ bodyWritten (now (body .entry)) n m (now (part .entry))) ⌝ }
+{
+    if body.len() != SLICE_BODY {
+        return 10;
+    }
+    pack_answer(write_body(body, n, m, part))
+}

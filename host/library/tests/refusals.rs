@@ -1,0 +1,166 @@
+//! A refused call writes nothing: every buffer and the guards around it are as before.
+
+mod support;
+
+use library::{Answer, Refused};
+use model::layout::*;
+use program::column::{z, z_slicem, Column};
+use support::{Bench, Lent};
+
+type Call = fn(&mut Bench) -> Answer;
+
+const POWER_UP_CALL: (&str, Call) = ("power up", Bench::power_up);
+const SETTLE: (&str, Call) = ("settle", Bench::settle);
+const CLOCK: (&str, Call) = ("clock", Bench::clock);
+const EDIT_INPUT: (&str, Call) = ("edit input", |bench| bench.edit_input(0, 1));
+const EDIT_TABLE: (&str, Call) = ("edit table", |bench| bench.edit_table(0, 1));
+const ALL: [(&str, Call); 5] = [POWER_UP_CALL, SETTLE, CLOCK, EDIT_INPUT, EDIT_TABLE];
+
+/// The calls refuse with the number and the place, and write nothing.
+fn refuse(calls: &[(&str, Call)], bench: &Bench, number: u8, place: u64, why: &str) {
+    for (name, call) in calls {
+        let mut lent = bench.clone();
+        assert_eq!(
+            call(&mut lent),
+            Err(Refused { number, place }),
+            "{name}: {why}"
+        );
+        assert_eq!(&lent, bench, "{name}: {why}");
+    }
+}
+
+/// A SLICEM with D in shift mode and one outside input, settled.
+fn shifting() -> Bench {
+    let column = Column::zeros(1, 1).set(0, KIND, 1).set(0, MODE + D, 2);
+    Bench::settled(column.bytes(), &[0])
+}
+
+#[test]
+fn a_refused_file() {
+    let mut bench = Bench::of(z().bytes());
+    bench.file.push(0);
+    refuse(&ALL, &bench, 8, 135, "a byte more");
+    bench.file.clear();
+    refuse(&ALL, &bench, 1, 0, "no byte");
+    let looped = Bench::of(z().pin(0, "A1", 4100).bytes());
+    refuse(&ALL, &looped, 9, 4, "a loop");
+    let missing = Bench::of(z_slicem().pin(0, "WE", 2).bytes());
+    refuse(&ALL, &missing, 7, 5, "no such driver");
+    let last = Bench::of(Column::zeros(64, 0).set(63, KIND, 2).bytes());
+    refuse(&ALL, &last, 5, 8006, "a choice of the last slice");
+}
+
+#[test]
+fn a_refused_file_before_the_buffers() {
+    let mut looped = Bench::of(z().pin(0, "A1", 4096).bytes());
+    looped.values = Lent::new(&[], 0xA5);
+    looped.inputs = Lent::new(&[2], 0xA5);
+    refuse(&ALL, &looped, 9, 0, "a loop and bad buffers");
+}
+
+#[test]
+fn a_length_off_by_one() {
+    let good = shifting();
+    for length in [3, 5] {
+        let contents = Lent::new(&vec![0; length], u64::MAX);
+        refuse(
+            &ALL,
+            &Bench {
+                contents,
+                ..good.clone()
+            },
+            10,
+            0,
+            "contents",
+        );
+    }
+    for length in [0, 2] {
+        let other = Lent::new(&vec![0; length], 0xA5);
+        refuse(
+            &ALL,
+            &Bench {
+                flops: other.clone(),
+                ..good.clone()
+            },
+            10,
+            0,
+            "flip-flops",
+        );
+        refuse(
+            &ALL[1..],
+            &Bench {
+                inputs: other,
+                ..good.clone()
+            },
+            10,
+            0,
+            "inputs",
+        );
+    }
+    for length in [31, 33] {
+        let values = Lent::new(&vec![0; length], 0xA5);
+        refuse(
+            &ALL[1..],
+            &Bench {
+                values,
+                ..good.clone()
+            },
+            10,
+            0,
+            "values",
+        );
+    }
+}
+
+#[test]
+fn a_byte_or_word_out_of_range() {
+    let good = shifting();
+    let inputs = Lent::new(&[2], 0xA5);
+    refuse(
+        &ALL[1..],
+        &Bench {
+            inputs,
+            ..good.clone()
+        },
+        11,
+        0,
+        "an input byte 2",
+    );
+    let contents = Lent::new(&[0, 0, 0, 1 << 32], u64::MAX);
+    refuse(
+        &ALL[1..],
+        &Bench {
+            contents,
+            ..good.clone()
+        },
+        11,
+        0,
+        "bit 32 in shift mode",
+    );
+    let mut stale = good.clone();
+    stale.values.lend()[31] = 2;
+    refuse(&[EDIT_INPUT, EDIT_TABLE], &stale, 11, 0, "a value byte 2");
+    let mut filled = stale.clone();
+    assert_eq!(
+        filled.settle(),
+        Ok(()),
+        "value bytes that are only filled are not judged"
+    );
+    assert_eq!(filled, good);
+}
+
+#[test]
+fn an_argument_out_of_range() {
+    let good = shifting();
+    let edits: [(&str, Call); 8] = [
+        ("input m", |bench| bench.edit_input(1, 1)),
+        ("input 2^32", |bench| bench.edit_input(1 << 32, 1)),
+        ("the largest input", |bench| bench.edit_input(usize::MAX, 1)),
+        ("input byte 2", |bench| bench.edit_input(0, 2)),
+        ("table 4n", |bench| bench.edit_table(4, 0)),
+        ("table 2^32", |bench| bench.edit_table(1 << 32, 0)),
+        ("the largest table", |bench| bench.edit_table(usize::MAX, 0)),
+        ("bit 63 in shift mode", |bench| bench.edit_table(D, 1 << 63)),
+    ];
+    refuse(&edits, &good, 11, 0, "an argument");
+}

@@ -1,0 +1,83 @@
+/* Quagmuffin: one column of FPGA slices, judged, settled, clocked and edited. Every function is proved to do what is said here, for any
+ * bytes. docs/FORMAT.md has the slice file.
+ *
+ * The library is target/staticlib/libquagmuffin.a, written by `rt staticlib quagmuffin`. It allocates nothing and keeps nothing between
+ * calls, so calls on different buffers may run at the same time.
+ *
+ * A buffer is a pointer and then its length in elements. The pointer is never null, also where the length is 0; a buffer of words is
+ * aligned as uint64_t; a buffer that is not const overlaps no other of the call. For a file of n slices and m outside inputs:
+ *
+ *   file       any bytes, of any length
+ *   contents   4n words, the contents of table 4s + letter (letters A to D count 0 to 3)
+ *   flops      n bytes, one a slice: bits 0-3 main flip-flops A to D, bits 4-7 second ones
+ *   inputs     m bytes, 0 or 1
+ *   values     32n bytes, 0 or 1, by signal number
+ *   record     the 127 bytes of a slice record
+ *   body       124 bytes, the fields of a slice record in the file's layout: a record without its first three bytes
+ *   part       the 127 bytes or more of a file from where a slice record is to stand
+ *
+ * Each function answers one number. 0 is done, but for qm_judge. A refusal has its number, 1 to 11, in the low 8 bits and its place in the
+ * bits above, and then no buffer was written:
+ *
+ *   1   bytes run out in a record or before the end record       7   a driver that doesn't exist
+ *   2   tag not 1, 2, 3                                           8   bytes after the end record
+ *   3   length not the tag's                                      9   a loop
+ *   4   tag or slice number not the one due                      10   a buffer of another length than named
+ *   5   n, m or a choice outside its list                        11   an argument or a byte not in range, or a
+ *   6   choices that don't go together                                word with bits 32-63 set in shift mode
+ *
+ * The place of 1 to 8 is the offset of the record, that of 9 the smallest signal on a loop, that of 10 and 11 is 0. A call on a file judges
+ * it first and gives the judge's refusal; then 10; then 11. The two record calls test 10 (the body first), then n and m (11), then 2 to 7, at
+ * place 0.
+ */
+#ifndef QUAGMUFFIN_H
+#define QUAGMUFFIN_H
+
+#include <stddef.h>
+#include <stdint.h>
+
+#ifdef __cplusplus
+extern "C" {
+#endif
+
+/* The refusal's number of an answer, 0 where there is none, and its place. */
+#define QM_NUMBER(answer) ((unsigned)((answer) & 255))
+#define QM_PLACE(answer) ((uint64_t)(answer) >> 8)
+
+/* The slices n and the outside inputs m of a file that qm_judge accepted. */
+#define QM_SLICES(answer) ((unsigned)(((answer) >> 8) & 65535))
+#define QM_INPUTS(answer) ((unsigned)((answer) >> 24))
+
+/* Judges any bytes. An accepted file's answer has 0 in its low 8 bits, n in bits 8-23 and m from bit 24. */
+uint64_t qm_judge(const uint8_t *file, size_t file_len);
+
+/* Fills the contents and the flip-flops with the state at power-up, whatever they held. */
+uint64_t qm_power_up(const uint8_t *file, size_t file_len, uint64_t *contents, size_t contents_len, uint8_t *flops, size_t flops_len);
+
+/* Fills the values with the settled signals, whatever they held. */
+uint64_t qm_settle(const uint8_t *file, size_t file_len, const uint64_t *contents, size_t contents_len, const uint8_t *flops, size_t flops_len,
+                   const uint8_t *inputs, size_t inputs_len, uint8_t *values, size_t values_len);
+
+/* One clock: fills the values with the signals settled before the edge, and moves the contents and the flip-flops. */
+uint64_t qm_clock(const uint8_t *file, size_t file_len, uint64_t *contents, size_t contents_len, uint8_t *flops, size_t flops_len,
+                  const uint8_t *inputs, size_t inputs_len, uint8_t *values, size_t values_len);
+
+/* Sets an outside input to a byte, 0 or 1, and recomputes each signal that depends on it; all others keep their bytes. */
+uint64_t qm_edit_input(const uint8_t *file, size_t file_len, const uint64_t *contents, size_t contents_len, const uint8_t *flops,
+                       size_t flops_len, uint8_t *inputs, size_t inputs_len, uint8_t *values, size_t values_len, size_t input, uint8_t byte);
+
+/* Sets a table's contents to a word, and recomputes each signal that depends on them; all others keep their bytes. */
+uint64_t qm_edit_table(const uint8_t *file, size_t file_len, uint64_t *contents, size_t contents_len, const uint8_t *flops, size_t flops_len,
+                       const uint8_t *inputs, size_t inputs_len, uint8_t *values, size_t values_len, size_t table, uint64_t word);
+
+/* Reads a slice record of a file of n slices and m outside inputs, any number below n being due, and fills the body with its fields. */
+uint64_t qm_read_record(const uint8_t *record, size_t record_len, size_t n, size_t m, uint8_t *body, size_t body_len);
+
+/* Writes the slice record with these fields into the first 127 bytes of the part, and leaves the rest of the part. */
+uint64_t qm_write_record(const uint8_t *body, size_t body_len, size_t n, size_t m, uint8_t *part, size_t part_len);
+
+#ifdef __cplusplus
+}
+#endif
+
+#endif
