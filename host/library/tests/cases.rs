@@ -1,20 +1,14 @@
 //! The paper's worked cases through the exported library, with what they have to give, written by hand.
 
+#[path = "support/bench.rs"]
+mod bench;
 mod support;
 
+use bench::Bench;
 use library::{judge, Accepted, Refused};
 use model::layout::*;
-use program::cases::{long_files, sizes, truncations, worked};
+use program::cases::{long_files, sizes, truncations, worked, worked_file};
 use program::column::Column;
-use support::Bench;
-
-/// The file of a worked case.
-fn worked_file(number: usize) -> Vec<u8> {
-    let start = format!("{number}:");
-    let mut cases = worked().into_iter();
-    let case = cases.find(|case| case.name.starts_with(&start));
-    case.expect("a worked case").file
-}
 
 /// The signals that are 1, of values that are all 0 or 1.
 fn ones(bench: &Bench) -> Vec<usize> {

@@ -1,6 +1,6 @@
 //! The example in C, compiled with the header against the archive, and run.
 
-use program::cases::worked;
+use program::cases::worked_file;
 use std::fs::File;
 use std::path::{Path, PathBuf};
 use std::process::{Command, Stdio};
@@ -25,9 +25,8 @@ fn example() -> PathBuf {
 
 /// What the example writes, given a worked case's file.
 fn output(program: &Path, number: usize) -> String {
-    let case = worked().into_iter().nth(number - 1).expect("a worked case");
     let file = Path::new(env!("CARGO_TARGET_TMPDIR")).join(format!("case-{number}"));
-    std::fs::write(&file, case.file).expect("a file");
+    std::fs::write(&file, worked_file(number)).expect("a file");
     let output = Command::new(program)
         .stdin(Stdio::from(File::open(&file).expect("the file")))
         .output()

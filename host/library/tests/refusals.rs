@@ -1,11 +1,14 @@
 //! A refused call writes nothing: every buffer and the guards around it are as before.
 
+#[path = "support/bench.rs"]
+mod bench;
 mod support;
 
+use bench::Bench;
 use library::{Answer, Refused};
 use model::layout::*;
 use program::column::{z, z_slicem, Column};
-use support::{Bench, Lent};
+use support::Lent;
 
 type Call = fn(&mut Bench) -> Answer;
 

@@ -54,6 +54,14 @@ pub fn worked() -> Vec<Case> {
     ]
 }
 
+/// The file of a worked case, the first of its number.
+pub fn worked_file(number: usize) -> Vec<u8> {
+    let start = format!("{number}:");
+    let mut cases = worked().into_iter();
+    let case = cases.find(|case| case.name.starts_with(&start));
+    case.expect("a worked case").file
+}
+
 fn all_ones() -> Column {
     let column = z().set(0, CARRY_START, 1);
     let fill = |column: Column, letter| column.contents(0, letter, u64::MAX);
