@@ -1,5 +1,8 @@
 //! The exported library, behind functions that are safe to call: slices in, an answer out.
 
+pub mod bench;
+pub mod lent;
+
 mod exported {
     extern "C" {
         pub fn qm_judge(file: *const u8, file_len: usize) -> u64;

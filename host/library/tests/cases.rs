@@ -1,10 +1,6 @@
 //! The paper's worked cases through the exported library, with what they have to give, written by hand.
 
-#[path = "support/bench.rs"]
-mod bench;
-mod support;
-
-use bench::Bench;
+use library::bench::Bench;
 use library::{judge, Accepted, Refused};
 use model::layout::*;
 use program::cases::{long_files, sizes, truncations, worked, worked_file};

@@ -1,11 +1,9 @@
 //! The record calls through the exported library, with what they have to give, written by hand.
 
-mod support;
-
+use library::lent::Lent;
 use library::{read_record, write_record, Refused};
 use model::layout::*;
 use program::column::{z, Column};
-use support::Lent;
 
 const HEAD: [u8; 3] = [2, 124, 0];
 

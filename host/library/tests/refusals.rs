@@ -1,14 +1,10 @@
 //! A refused call writes nothing: every buffer and the guards around it are as before.
 
-#[path = "support/bench.rs"]
-mod bench;
-mod support;
-
-use bench::Bench;
+use library::bench::Bench;
+use library::lent::Lent;
 use library::{Answer, Refused};
 use model::layout::*;
 use program::column::{z, z_slicem, Column};
-use support::Lent;
 
 type Call = fn(&mut Bench) -> Answer;
 

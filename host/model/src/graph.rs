@@ -14,6 +14,22 @@ pub fn depends_on(graph: &[Vec<usize>], signal: usize) -> Vec<bool> {
     reached
 }
 
+/// For each signal whether it is one of `first` or depends on one.
+pub fn dependents(graph: &[Vec<usize>], first: &[bool]) -> Vec<bool> {
+    let mut found = first.to_vec();
+    let mut grows = true;
+    while grows {
+        grows = false;
+        for signal in 0..graph.len() {
+            if !found[signal] && graph[signal].iter().any(|&read| found[read]) {
+                found[signal] = true;
+                grows = true;
+            }
+        }
+    }
+    found
+}
+
 /// The smallest signal that depends on itself. Its loop goes through no smaller
 /// signal, since each signal of it is on a loop.
 pub fn smallest_on_loop(graph: &[Vec<usize>]) -> Option<usize> {
@@ -42,7 +58,7 @@ mod tests {
 
     /// Compares with dependence as the paper words it, on many small graphs.
     #[test]
-    fn smallest_on_loop_depends_on_itself() {
+    fn loops_and_dependents() {
         let mut random = 1u64;
         let mut below = |count: usize| {
             random = random.wrapping_mul(6364136223846793005).wrapping_add(1);
@@ -56,6 +72,11 @@ mod tests {
             }
             let on_loop = |&signal: &usize| depends_on(&graph, signal)[signal];
             assert_eq!(smallest_on_loop(&graph), (0..count).find(on_loop));
+            let first = below(count);
+            let is_first: Vec<bool> = (0..count).map(|signal| signal == first).collect();
+            let reached = |signal| signal == first || depends_on(&graph, signal)[first];
+            let reached: Vec<bool> = (0..count).map(reached).collect();
+            assert_eq!(dependents(&graph, &is_first), reached);
         }
     }
 }

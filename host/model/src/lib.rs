@@ -1,18 +1,24 @@
-//! An independent second judge of slice files, written from the paper alone
-//! (papers/01-scope.md) and plain rather than fast. The proved program is
-//! compared with it.
+//! An independent second judge and simulator of slice files, written from the
+//! paper alone (papers/01-scope.md) and plain rather than fast. The proved
+//! program and library are compared with it.
 
 pub mod check;
 pub mod design;
+pub mod edge;
 pub mod graph;
 pub mod layout;
 pub mod rules;
+pub mod simulate;
+pub mod values;
+pub mod workings;
 
 use std::fmt;
 
 pub use check::check;
 pub use design::Design;
 pub use rules::Rules;
+pub use simulate::Simulator;
+pub use workings::Workings;
 
 /// The answer to a file.
 #[derive(Clone, Copy, Debug, PartialEq, Eq)]

@@ -1,7 +1,7 @@
-//! A file that is run in buffers of its own.
+//! A file that is run in guarded buffers of its own, for tests.
 
-use super::support::Lent;
-use library::Answer;
+use crate::lent::Lent;
+use crate::Answer;
 
 /// A file and the buffers of its calls.
 #[derive(Clone, Debug, PartialEq)]
@@ -43,11 +43,11 @@ impl Bench {
     }
 
     pub fn power_up(&mut self) -> Answer {
-        library::power_up(&self.file, self.contents.lend(), self.flops.lend())
+        crate::power_up(&self.file, self.contents.lend(), self.flops.lend())
     }
 
     pub fn settle(&mut self) -> Answer {
-        library::settle(
+        crate::settle(
             &self.file,
             self.contents.get(),
             self.flops.get(),
@@ -57,7 +57,7 @@ impl Bench {
     }
 
     pub fn clock(&mut self) -> Answer {
-        library::clock(
+        crate::clock(
             &self.file,
             self.contents.lend(),
             self.flops.lend(),
@@ -67,7 +67,7 @@ impl Bench {
     }
 
     pub fn edit_input(&mut self, input: usize, byte: u8) -> Answer {
-        library::edit_input(
+        crate::edit_input(
             &self.file,
             self.contents.get(),
             self.flops.get(),
@@ -79,7 +79,7 @@ impl Bench {
     }
 
     pub fn edit_table(&mut self, table: usize, word: u64) -> Answer {
-        library::edit_table(
+        crate::edit_table(
             &self.file,
             self.contents.lend(),
             self.flops.get(),

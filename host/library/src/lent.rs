@@ -1,4 +1,4 @@
-//! Buffers to lend, with guards around them.
+//! Buffers to lend, with guards around them, for tests.
 
 const GUARDS: usize = 64;
 
@@ -17,15 +17,17 @@ impl<T: Copy + PartialEq> Lent<T> {
         Lent { cells, guard }
     }
 
+    /// Whether the guards stand.
+    pub fn is_guarded(&self) -> bool {
+        let end = self.cells.len() - GUARDS;
+        let mut guards = self.cells[..GUARDS].iter().chain(&self.cells[end..]);
+        guards.all(|&cell| cell == self.guard)
+    }
+
     /// The middle, once the guards are seen to stand.
     pub fn get(&self) -> &[T] {
-        let end = self.cells.len() - GUARDS;
-        let guards = self.cells[..GUARDS].iter().chain(&self.cells[end..]);
-        assert!(
-            guards.copied().all(|cell| cell == self.guard),
-            "a guard was written"
-        );
-        &self.cells[GUARDS..end]
+        assert!(self.is_guarded(), "a guard was written");
+        &self.cells[GUARDS..self.cells.len() - GUARDS]
     }
 
     pub fn lend(&mut self) -> &mut [T] {

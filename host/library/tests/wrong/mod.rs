@@ -1,0 +1,27 @@
+//! Mistakes in running a column, each of which looks reasonable. None makes a
+//! signal read what the paper's doesn't depend on, since that could loop.
+
+mod edges;
+mod edits;
+mod signals;
+
+use model::Workings;
+
+/// A mistake's name, and how it changes the paper's workings.
+pub type Mutant = (&'static str, fn(&mut Workings));
+
+pub fn all() -> Vec<Mutant> {
+    let families = [signals::all(), edges::all(), edits::all(), tests()];
+    families.into_iter().flatten().collect()
+}
+
+/// Refusals that aren't given.
+fn tests() -> Vec<Mutant> {
+    vec![
+        ("input bytes not tested", |w| w.tests.input_bytes = false),
+        ("value bytes not tested", |w| w.tests.value_bytes = false),
+        ("words not tested", |w| w.tests.words = false),
+        ("new byte not tested", |w| w.tests.new_byte = false),
+        ("new word not tested", |w| w.tests.new_word = false),
+    ]
+}

@@ -1,0 +1,187 @@
+//! The calls that run a column, with their refusals.
+
+use crate::design::{Mode, Source, SIGNALS};
+use crate::edge::Edge;
+use crate::rules::Rules;
+use crate::values::{settled, State};
+use crate::workings::Workings;
+use crate::{judge, Design, Verdict};
+
+#[derive(Clone, Copy, Debug, PartialEq, Eq)]
+pub struct Refusal {
+    pub number: u8,
+    pub place: usize,
+}
+
+/// What a call answers.
+pub type Answer = Result<(), Refusal>;
+
+/// Runs one file, which is judged once.
+#[derive(Clone)]
+pub struct Simulator {
+    workings: Workings,
+    judged: Result<Design, Refusal>,
+}
+
+impl Simulator {
+    pub fn new(workings: Workings, file: &[u8]) -> Simulator {
+        let judged = match judge(file) {
+            Verdict::Accepted { n, m } => Ok(Design::decode(&Rules::paper(), file, n, m)),
+            Verdict::Refused { number, place } => Err(Refusal { number, place }),
+        };
+        Simulator { workings, judged }
+    }
+
+    /// The same file, run in another way.
+    pub fn with(&self, workings: Workings) -> Simulator {
+        let judged = self.judged.clone();
+        Simulator { workings, judged }
+    }
+
+    /// The judge's answer.
+    pub fn design(&self) -> Result<&Design, Refusal> {
+        self.judged.as_ref().map_err(|&refusal| refusal)
+    }
+
+    /// Fills contents and flip-flops.
+    pub fn power_up(&self, contents: &mut [u64], flops: &mut [u8]) -> Answer {
+        let design = self.design()?;
+        let lengths = contents.len() == 4 * design.n && flops.len() == design.n;
+        require(lengths, 10)?;
+        for (number, slice) in design.slices.iter().enumerate() {
+            contents[4 * number..][..4].copy_from_slice(&slice.contents);
+            flops[number] = slice.power_up;
+        }
+        Ok(())
+    }
+
+    /// Fills the values.
+    pub fn settle(
+        &self,
+        contents: &[u64],
+        flops: &[u8],
+        inputs: &[u8],
+        values: &mut [u8],
+    ) -> Answer {
+        let state = State::of(contents, flops, inputs);
+        let design = self.design()?;
+        require(lengths_are_right(design, state, values), 10)?;
+        require(self.in_range(design, state), 11)?;
+        values.copy_from_slice(&settled(&self.workings, design, state));
+        Ok(())
+    }
+
+    /// Fills the values as settled before the edge, and moves the state.
+    pub fn clock(
+        &self,
+        contents: &mut [u64],
+        flops: &mut [u8],
+        inputs: &[u8],
+        values: &mut [u8],
+    ) -> Answer {
+        self.settle(contents, flops, inputs, values)?;
+        let design = self.design()?;
+        let mut before = (contents.to_vec(), flops.to_vec(), values.to_vec());
+        for slice in 0..design.n {
+            if !self.workings.together {
+                before = (contents.to_vec(), flops.to_vec(), before.2);
+                self.settle(&before.0, &before.1, inputs, &mut before.2)?;
+            }
+            let edge = Edge {
+                workings: &self.workings,
+                design,
+                state: State::of(&before.0, &before.1, inputs),
+                values: &before.2,
+            };
+            contents[4 * slice..][..4].copy_from_slice(&edge.contents(slice));
+            flops[slice] = edge.flops(slice);
+        }
+        Ok(())
+    }
+
+    /// Sets an input, and recomputes what depends on it.
+    pub fn edit_input(
+        &self,
+        contents: &[u64],
+        flops: &[u8],
+        inputs: &mut [u8],
+        values: &mut [u8],
+        input: usize,
+        byte: u8,
+    ) -> Answer {
+        let design = self.design()?;
+        self.can_edit(design, State::of(contents, flops, inputs), values)?;
+        require(input < design.m, 11)?;
+        require(byte <= 1 || !self.workings.tests.new_byte, 11)?;
+        inputs[input] = byte;
+        let reads = |x| (self.workings.sources)(design, x).contains(&Source::Input(input));
+        let first: Vec<bool> = (0..SIGNALS * design.n).map(reads).collect();
+        let state = State::of(contents, flops, inputs);
+        let new = (self.workings.edited)(&self.workings, design, state, values, &first);
+        values.copy_from_slice(&new);
+        Ok(())
+    }
+
+    /// Sets a table's contents, and recomputes what depends on them.
+    pub fn edit_table(
+        &self,
+        contents: &mut [u64],
+        flops: &[u8],
+        inputs: &[u8],
+        values: &mut [u8],
+        table: usize,
+        word: u64,
+    ) -> Answer {
+        let design = self.design()?;
+        self.can_edit(design, State::of(contents, flops, inputs), values)?;
+        require(table < 4 * design.n, 11)?;
+        let fits = fits(design, table, word) || !self.workings.tests.new_word;
+        require(fits, 11)?;
+        contents[table] = word;
+        let mut first = vec![false; SIGNALS * design.n];
+        for signal in (self.workings.of_table)(table % 4) {
+            first[signal.of_slice(table / 4)] = true;
+        }
+        let state = State::of(contents, flops, inputs);
+        let new = (self.workings.edited)(&self.workings, design, state, values, &first);
+        values.copy_from_slice(&new);
+        Ok(())
+    }
+
+    /// What both edits test of the buffers. They read the values as well, so
+    /// those are judged.
+    fn can_edit(&self, design: &Design, state: State, values: &[u8]) -> Answer {
+        require(lengths_are_right(design, state, values), 10)?;
+        require(self.in_range(design, state), 11)?;
+        let tested = self.workings.tests.value_bytes;
+        require(!tested || values.iter().all(|&byte| byte <= 1), 11)
+    }
+
+    /// Whether inputs and contents are such as a column can have.
+    fn in_range(&self, design: &Design, state: State) -> bool {
+        let tests = self.workings.tests;
+        let mut words = (0..4 * design.n).map(|table| fits(design, table, state.contents[table]));
+        (!tests.input_bytes || state.inputs.iter().all(|&byte| byte <= 1))
+            && (!tests.words || words.all(|fits| fits))
+    }
+}
+
+/// Refusals 10 and 11 have place 0.
+fn require(passed: bool, number: u8) -> Answer {
+    match passed {
+        true => Ok(()),
+        false => Err(Refusal { number, place: 0 }),
+    }
+}
+
+fn lengths_are_right(design: &Design, state: State, values: &[u8]) -> bool {
+    state.contents.len() == 4 * design.n
+        && state.flops.len() == design.n
+        && state.inputs.len() == design.m
+        && values.len() == SIGNALS * design.n
+}
+
+/// Whether a table can hold a word: in shift mode bits 32 to 63 are zero.
+fn fits(design: &Design, table: usize, word: u64) -> bool {
+    design.slices[table / 4].mode[table % 4] != Mode::Shift || word >> 32 == 0
+}
