@@ -4,7 +4,9 @@ mod columns;
 mod timing;
 
 use columns::{deep, looped_all, looped_each};
-use timing::fastest;
+use model::{Simulator, Workings};
+use program::column::Column;
+use timing::{fastest, RUNS};
 
 /// A powered-up, settled column and the buffers of its calls.
 struct Bench {
@@ -81,7 +83,7 @@ impl Bench {
 }
 
 /// Nanoseconds of one call of each kind: judge, settle, clock, edit of an input, edit of a table.
-fn calls(n: usize) -> [f64; 5] {
+fn library_calls(n: usize) -> [f64; 5] {
     let mut bench = Bench::settled(n);
     [
         fastest(|| library::judge(&bench.file)),
@@ -92,26 +94,45 @@ fn calls(n: usize) -> [f64; 5] {
     ]
 }
 
+/// The same of the second program, which is given the file anew in every call, as the library is.
+fn model_calls(n: usize) -> [f64; 5] {
+    let b = &mut Bench::settled(n);
+    let file = b.file.clone();
+    let column = || Simulator::new(Workings::paper(), &file);
+    let (contents, flops) = (&mut b.contents, &mut b.flops);
+    let (inputs, values) = (&mut b.inputs, &mut b.values);
+    [
+        fastest(|| model::judge(&file)),
+        fastest(|| column().settle(contents, flops, inputs, values)),
+        fastest(|| column().clock(contents, flops, inputs, values)),
+        fastest(|| column().edit_input(contents, flops, inputs, values, 0, 1)),
+        fastest(|| column().edit_table(contents, flops, inputs, values, 0, 1)),
+    ]
+}
+
+fn line(name: &str, numbers: [f64; 5], digits: usize) {
+    let columns = numbers.map(|number| format!("{number:11.digits$}"));
+    println!("{name:>22}{}", columns.concat());
+}
+
+fn looped(name: &str, column: Column, accepted: f64) {
+    let file = column.bytes();
+    let ratio = fastest(|| library::judge(&file)) / accepted;
+    println!("judge, 64 slices, {name}: {ratio:.2} times an accepted file");
+}
+
 fn main() {
-    println!("nanoseconds a call, the fastest of several runs");
-    println!("slices      judge     settle      clock edit input edit table   judge a signal");
-    for n in [1, 2, 4, 8, 16, 32, 64] {
-        let [judge, settle, clock, input, table] = calls(n);
-        let signal = judge / (32 * n) as f64;
-        println!(
-            "{n:6} {judge:10.0} {settle:10.0} {clock:10.0} {input:10.0} {table:10.0} {signal:16.1}"
-        );
+    println!("the fastest of {RUNS} runs; nanoseconds a call");
+    println!("                slices      judge     settle      clock edit input edit table");
+    for n in [1, 2, 4, 8, 16, 32] {
+        line(&n.to_string(), library_calls(n), 0);
     }
-    let accepted = deep(64).bytes();
-    let judge = fastest(|| library::judge(&accepted));
-    for (name, column) in [
-        ("one loop through every table", looped_all(64)),
-        ("a loop in every slice", looped_each(64)),
-    ] {
-        let file = column.bytes();
-        let ratio = fastest(|| library::judge(&file)) / judge;
-        println!("64 slices, {name}: {ratio:.2} times an accepted file");
-    }
-    let ratio = fastest(|| model::judge(&accepted)) / judge;
-    println!("64 slices, the second program's judge: {ratio:.0} times the library's");
+    let calls = library_calls(64);
+    line("64", calls, 0);
+    line("64, a signal", calls.map(|time| time / 2048.0), 1);
+    let model = model_calls(64);
+    let ratios: [f64; 5] = std::array::from_fn(|i| model[i] / calls[i]);
+    line("64, second program x", ratios, 1);
+    looped("one loop through every table", looped_all(64), calls[0]);
+    looped("a loop in every slice", looped_each(64), calls[0]);
 }

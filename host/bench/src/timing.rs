@@ -3,8 +3,9 @@
 use std::hint::black_box;
 use std::time::{Duration, Instant};
 
-const RUNS: usize = 15;
-const RUN: Duration = Duration::from_millis(20);
+/// Many short runs: one of them is undisturbed.
+pub const RUNS: usize = 150;
+const RUN: Duration = Duration::from_millis(2);
 
 /// Nanoseconds of a call in the fastest of several runs of it.
 pub fn fastest<T>(mut call: impl FnMut() -> T) -> f64 {
