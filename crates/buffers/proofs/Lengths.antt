@@ -6,8 +6,8 @@ use Prim.Native.Nat.{ℕ, _*_}
 use borrow.Author.Tests.{eqb-true, not-false}
 use lib.Dec.{eqb}
 use lib.ListN.{length}
-use Rattle.slicefile.specs.Rules.{given}
-use Rattle.slicefile.proofs.RecordLaws.{given-none, orElse-left, orElse-right}
+use Rattle.rules.specs.Rules.{given}
+use Rattle.rules.proofs.RecordLaws.{given-none, orElse-left, orElse-right}
 use Rattle.slicefile.proofs.Tests.{or-left, or-right}
 use Rattle.column.specs.Clock.{State}
 use Rattle.column.specs.File.{signalCount}

@@ -6,7 +6,7 @@ use lib.Dec.{eqb, ltb, leb}
 use lib.ListN.{length, getD}
 use Rattle.slicefile.specs.Lists.{anyBelow}
 use Rattle.slicefile.specs.Format.{mode}
-use Rattle.slicefile.specs.Rules.{given, _orElse_}
+use Rattle.rules.specs.Rules.{given, _orElse_}
 use Rattle.column.specs.Clock.{State}
 use Rattle.column.specs.File.{sliceBody, signalCount}
 

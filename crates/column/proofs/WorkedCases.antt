@@ -11,7 +11,7 @@ use Rattle.netlist.specs.Graph.{LoopFree}
 use Rattle.netlist.specs.Rule.{applyGate, ruleOf, sourcesOf, signalsIn, readsOf, valueOf}
 use Rattle.slicefile.specs.Lists.{anyBelow, tabulate}
 use Rattle.slicefile.specs.Driver.{driverOf}
-use Rattle.slicefile.specs.Rules.{headerRefusal, badSize, letterChoice, badChoice, letterCombination, badCombination, badDriver, bodyRefusal, sliceRefusal, sizeRefusal}
+use Rattle.rules.specs.Rules.{headerRefusal, badSize, letterChoice, badChoice, letterCombination, badCombination, badDriver, bodyRefusal, sliceRefusal, sizeRefusal}
 use Rattle.slicefile.proofs.Tests.{and-left, and-right}
 use Rattle.series7.specs.Signals.{pinSource, pinsOf, startSource, carryIn, carrySource, wideGate, familyGate, sliceGate}
 use Rattle.series7.specs.Edge.{mainSource, secondSource, nextBit, nextFlops, writeAddress, nextWord}

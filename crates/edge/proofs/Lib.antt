@@ -1,6 +1,1 @@
 pub mod Table
-pub mod Bits
-pub mod Byte
-pub mod Moving
-pub mod MemoryRule
-pub mod Laws

@@ -1,26 +1,21 @@
 -- The record calls by a record's body: what a body in the file's layout says of the record, and the answers. Assumes nothing.
 use mathlib.Core.Path.{_≡_, refl, sym, _∙_, ap}
-use mathlib.Core.Bool.{not}
-use mathlib.Core.List.{List, [], _∷_, _++_, append-nil}
-use Prim.Native.Nat.{ℕ, zero, suc, _≤_}
+use mathlib.Core.List.{List, append-nil}
+use Prim.Native.Nat.{ℕ, zero, suc}
 use native.Mathlib.Omega.{arith}
-use borrow.Author.Tests.{le-ltb, eqb-true, not-false}
-use lib.Dec.{eqb}
 use lib.ListN.{length, drop, length-drop}
-use lib.Seq.{sets, take-all, length-take-le, drop-length}
-use Rattle.slicefile.specs.Format.{sliceTag, bodyLength, recordLength, bodyOf}
-use Rattle.slicefile.specs.Rules.{given}
+use lib.Seq.{sets, length-take-le, drop-length}
+use Rattle.slicefile.specs.Format.{sliceTag, bodyLength, bodyOf}
 use Rattle.slicefile.specs.declared.Answer.{Answer}
 use Rattle.slicefile.specs.declared.Answer.the-variants.{Refused, Done}
-use Rattle.records.specs.Record.{recordOf, bodyBytes, recordBytes, Below}
+use Rattle.fields.specs.Record.{recordOf, bodyBytes, Below}
 use Rattle.records.specs.Calls.{readRefusal, writeRefusal, answerOf, unless, readRecord, written}
 use Rattle.records.specs.declared.Reading.{Reading}
-use Rattle.records.specs.declared.Record.{Record}
-use Rattle.slicefile.proofs.RecordLaws.{orElse-left, given-none}
 use Rattle.records.proofs.Answers.{kept-refused, read-done}
-use Rattle.records.proofs.Pieces.{below-piece}
-use Rattle.records.proofs.RoundTrip.{bytes-of-record}
-use Rattle.records.proofs.Stores.{sets-front}
+use Rattle.records.proofs.RoundTrip.{read-whole}
+use Rattle.fields.proofs.Pieces.{below-piece}
+use Rattle.fields.proofs.RoundTrip.{bytes-of-record}
+use Rattle.fields.proofs.Stores.{sets-front}
 use Rattle.quagmuffin.specs.Bodies.{readBodyRefusal, bodyRead, writeBodyRefusal, bodyWritten}
 
 -- an answer tells whether there was a refusal
@@ -32,14 +27,10 @@ refused-some : (k : ℕ) {i p : ℕ} → answerOf k ≡ Refused i p → k ≡ 0 
 refused-some zero e z = let y : _≡_ {A = ℕ} 0 1 = cc in omega arith
 refused-some (suc k) e z = omega arith
 
--- the reader's answer, and the length of what it accepts
+-- the reader's answer
 pub read-answer : (s : List ℕ) (n m : ℕ) {r : Reading} → r ≡ readRecord s n m → r .answer ≡ answerOf (readRefusal s n m)
 unfolding readRecord
 read-answer s n m e = ap (λ (x : Reading). x .answer) e
-
-pub read-whole : (s : List ℕ) (n m : ℕ) → readRefusal s n m ≡ 0 → length s ≡ recordLength sliceTag
-unfolding readRefusal
-read-whole s n m e = eqb-true _ _ (not-false _ (given-none 9 _ (orElse-left (given 10 (not (eqb (length s) (recordLength sliceTag)))) _ e)))
 
 -- a refused reader leaves the body
 pub read-kept : (s : List ℕ) (n m : ℕ) (body : List ℕ) {a : Answer} {i p : ℕ} → a ≡ answerOf (readRefusal s n m) → a ≡ Refused i p
@@ -53,29 +44,6 @@ read-stored s n m body b h e =
     let l : length (bodyOf sliceTag s) ≡ bodyLength sliceTag = length-take-le 124 (drop 3 s) (rw length-drop (omega (arith, read-whole s n m e))) in
     let f : sets body 0 (bodyOf sliceTag s) ≡ bodyOf sliceTag s = sets-front body (bodyOf sliceTag s) (length body) (l ∙ sym h) (omega arith) ∙ rw (drop-length body) (append-nil _) in
     rw (read-done s n m e, e) (refl, f ∙ sym (bytes-of-record (bodyOf sliceTag s) l (below-piece s 3 124 b)))
-
--- the bytes of the record of a body
-pub bytes-of-body : (body : List ℕ) → length body ≡ bodyLength sliceTag → Below 256 body → recordBytes (recordOf body) ≡ (sliceTag ∷ bodyLength sliceTag ∷ 0 ∷ []) ++ body
-unfolding recordBytes
-bytes-of-body body h b = rw (bytes-of-record body h b)
-
--- the reader of these bytes refuses as the writer of the record does, where the part is long enough
-pub alike : (body : List ℕ) (n m size : ℕ) → length body ≡ bodyLength sliceTag → Below 256 body → recordLength sliceTag ≤ size
-    → readRefusal ((sliceTag ∷ bodyLength sliceTag ∷ 0 ∷ []) ++ body) n m ≡ writeRefusal (recordOf body) n m size
-unfolding readRefusal writeRefusal
-alike body n m size h b l = rw (bytes-of-body body h b, le-ltb _ _ l, h)
-
--- the record that is read from them is the body's
-pub slice-of-body : (body : List ℕ) {bytes : List ℕ} (n m : ℕ) {r : Reading} → length body ≡ bodyLength sliceTag → bytes ≡ (sliceTag ∷ bodyLength sliceTag ∷ 0 ∷ []) ++ body
-    → r ≡ readRecord bytes n m → r .answer ≡ Done → r .slice ≡ recordOf body
-slice-of-body body {bytes} n m h e f d =
-    ap (λ (x : Reading). x .slice) (f ∙ read-done bytes n m (done-none (readRefusal bytes n m) (sym (read-answer bytes n m f) ∙ d)))
-    ∙ rw e (ap recordOf (take-all 124 body (omega arith)))
-
--- a refused writer leaves the part
-pub write-kept : (r : Record) (n m : ℕ) (part : List ℕ) {a : Answer} {i p : ℕ} → a ≡ answerOf (writeRefusal r n m (length part)) → a ≡ Refused i p → part ≡ written r n m part
-unfolding written
-write-kept r n m part e f = kept-refused _ _ _ (refused-some (writeRefusal r n m (length part)) (sym e ∙ f))
 
 -- with a body of the right length the two calls are those on the record
 pub read-sized : (s : List ℕ) (n m : ℕ) (body : List ℕ) → length body ≡ bodyLength sliceTag

@@ -8,9 +8,9 @@ use native.Mathlib.Omega.{arith}
 use lib.Dec.{ltb, leb, eqb}
 use lib.ListN.{length, drop}
 use Rattle.slicefile.specs.Format.{sliceLimit, sizeTag, sliceTag, endTag, headLength, bodyLength, recordLength, byteAt, pairAt, bodyOf, numberByte}
-use Rattle.slicefile.specs.Rules.{given, _orElse_, headerRefusal, badSize, badChoice, badCombination, badDriver, bodyRefusal, sliceRefusal, sizeRefusal}
+use Rattle.rules.specs.Rules.{given, _orElse_, headerRefusal, badSize, badChoice, badCombination, badDriver, bodyRefusal, sliceRefusal, sizeRefusal}
 use Rattle.slicefile.specs.declared.Answer.{Answer}
-use Rattle.slicefile.proofs.RecordLaws.{size-tells}
+use Rattle.rules.proofs.RecordLaws.{size-tells}
 use Rattle.column.specs.File.{sliceCount, inputCount, recordStart, fileLimit}
 use Rattle.column.specs.Clock.{State}
 use Rattle.column.specs.Check.{firstBad, checkEnd, checkSlices, checkFile}
@@ -20,8 +20,8 @@ use Rattle.column.specs.declared.Checked.the-variants.{Bad, Sound}
 use Rattle.column.specs.declared.Verdict.{Verdict}
 use Rattle.column.proofs.SoundLaws.{sound-file}
 use Rattle.records.specs.Calls.{recordRefusal, readRefusal, writeRefusal, answerOf}
-use Rattle.records.specs.Record.{recordBytes}
-use Rattle.records.specs.declared.Record.{Record}
+use Rattle.fields.specs.Record.{recordBytes}
+use Rattle.fields.specs.declared.Record.{Record}
 use Rattle.buffers.specs.Buffers.{badState, badLengths, badBytes, badWords, settleRefusal, editRefusal}
 use Rattle.simulator.specs.Calls.{Called, judged, refused, done}
 use Rattle.quagmuffin.specs.Packed.{Small, SmallAnswer, SmallVerdict}

@@ -5,8 +5,8 @@ use mathlib.Core.List.{List}
 use lib.Dec.{eqb}
 use lib.ListN.{length}
 use Rattle.slicefile.specs.Format.{sliceTag, bodyLength}
-use Rattle.slicefile.specs.Rules.{given, _orElse_}
-use Rattle.records.specs.Record.{recordOf, bodyBytes}
+use Rattle.rules.specs.Rules.{given, _orElse_}
+use Rattle.fields.specs.Record.{recordOf, bodyBytes}
 use Rattle.records.specs.Calls.{readRefusal, writeRefusal, unless, readRecord, written}
 
 abbrev pub badBody : List ℕ → Bool

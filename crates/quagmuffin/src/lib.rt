@@ -1,14 +1,14 @@
 // The exported library: each call takes slices and numbers, and answers one number, the answer of the call below it, packed.
 ghost use mathlib.Core.Path.{_≡_};
-ghost use mathlib.Core.List.{[], _∷_, _++_};
 ghost use Prim.Native.Nat.{_≤_};
 ghost use lib.ListN.{length};
 ghost use Rattle.slicefile.specs.Format.{sliceTag, bodyLength};
 ghost use Rattle.column.specs.Clock.{stateOf};
 ghost use Rattle.column.specs.Judge.{Judged};
-ghost use Rattle.simulator.specs.Calls.{PoweredUp, SettleCalled, ClockCalled, InputEdited, TableEdited};
-ghost use Rattle.records.specs.Record.{recordOf, bodyBytes};
-ghost use Rattle.records.specs.Calls.{readRefusal, writeRefusal, answerOf, unless, readRecord, written};
+ghost use Rattle.simulator.specs.Calls.{PoweredUp, SettleCalled, ClockCalled};
+ghost use Rattle.edits.specs.Edits.{InputEdited, TableEdited};
+ghost use Rattle.fields.specs.Record.{bodyBytes};
+ghost use Rattle.records.specs.Calls.{readRefusal, answerOf, unless, readRecord};
 ghost use Rattle.quagmuffin.specs.Bodies.{readBodyRefusal, bodyRead, writeBodyRefusal, bodyWritten};
 ghost use Rattle.quagmuffin.specs.Packed.{pack, packAnswer, packVerdict, SmallAnswer, SmallVerdict, Packed, Answered};
 use column::Verdict;
@@ -104,7 +104,7 @@ pub extern "C" fn qm_edit_input(
 ) -> u64
     ensures { λ r. ⌜ Answered (InputEdited (now (file .entry)) (stateOf (now (contents .entry)) (now (flops .entry))) input byte (now (inputs .entry)) (now (inputs .exit)) (now (values .entry)) (now (values .exit))) r ⌝ }
 {
-    pack_answer(simulator::edit_input(file, contents, flops, inputs, values, input, byte))
+    pack_answer(edits::edit_input(file, contents, flops, inputs, values, input, byte))
 }
 
 // Sets a table's contents, and recomputes the signals that depend on them. The table is numbered as its word.
@@ -120,7 +120,7 @@ pub extern "C" fn qm_edit_table(
 ) -> u64
     ensures { λ r. ⌜ Answered (TableEdited (now (file .entry)) (now (contents .entry)) (now (contents .exit)) (now (flops .entry)) table word (now (inputs .entry)) (now (values .entry)) (now (values .exit))) r ⌝ }
 {
-    pack_answer(simulator::edit_table(file, contents, flops, inputs, values, table, word))
+    pack_answer(edits::edit_table(file, contents, flops, inputs, values, table, word))
 }
 
 // Reads a record, and fills a body with its fields.
@@ -133,7 +133,7 @@ fn read_body(bytes: &[u8], n: usize, m: usize, body: &mut [u8]) -> Answer
     let Answer::Done = answer else {
         return answer;
     };
-    records::put_bytes(body, 0, &bytes[HEAD..SLICE_RECORD]);
+    fields::put_bytes(body, 0, &bytes[HEAD..SLICE_RECORD]);
     Answer::Done
 }
 
@@ -148,38 +148,6 @@ pub extern "C" fn qm_read_record(bytes: &[u8], n: usize, m: usize, body: &mut [u
     pack_answer(read_body(bytes, n, m, body))
 }
 
-// The bytes of the record with a body: tag, length, body.
-fn record_bytes(body: &[u8]) -> [u8; SLICE_RECORD]
-    requires { ⌜ length (now body) ≡ bodyLength sliceTag ⌝ }
-    ensures { λ r. ⌜ r ≡ (sliceTag ∷ bodyLength sliceTag ∷ 0 ∷ []) ++ now (body .entry) ⌝ }
-{
-    let mut bytes = [0u8; SLICE_RECORD];
-    records::put_bytes(&mut bytes, 0, &[2, 124, 0]);
-    records::put_bytes(&mut bytes, HEAD, body);
-    bytes
-}
-
-// Writes the record with a body.
-fn write_body(body: &[u8], n: usize, m: usize, part: &mut [u8]) -> Answer
-    requires { ⌜ length (now body) ≡ bodyLength sliceTag ⌝ }
-    ensures { λ r. ⌜ (r ≡ answerOf (writeRefusal (recordOf (now (body .entry))) n m (length (now (part .entry))))) × (now (part .exit) ≡ written (recordOf (now (body .entry))) n m (now (part .entry))) ⌝ }
-{
-    if part.len() < SLICE_RECORD {
-        return Answer::Refused {
-            number: 10,
-            place: 0,
-        };
-    }
-    let bytes = record_bytes(body);
-    let reading = records::read_record(&bytes, n, m);
-    let answer = reading.answer;
-    let Answer::Done = answer else {
-        return answer;
-    };
-    let slice = reading.slice;
-    records::write_record(slice, n, m, part)
-}
-
 // Writes the record with a body of 124 bytes into the first 127 bytes of a part of a file of n slices and m outside inputs.
 #[no_mangle]
 pub extern "C" fn qm_write_record(body: &[u8], n: usize, m: usize, part: &mut [u8]) -> u64
@@ -188,5 +156,6 @@ pub extern "C" fn qm_write_record(body: &[u8], n: usize, m: usize, part: &mut [u
     if body.len() != SLICE_BODY {
         return 10;
     }
-    pack_answer(write_body(body, n, m, part))
+    let slice = fields::decode(body);
+    pack_answer(records::write_record(slice, n, m, part))
 }

@@ -4,9 +4,9 @@ use mathlib.Core.List.{List, _++_}
 use Prim.Native.Nat.{ℕ, zero, suc}
 use lib.ListN.{length, drop}
 use Rattle.slicefile.specs.Format.{sliceTag, recordLength, bodyOf}
-use Rattle.records.specs.Record.{recordOf, recordBytes, zeroRecord}
-use Rattle.records.specs.Calls.{readRefusal, writeRefusal, answerOf, unless, readRecord, written}
-use Rattle.records.specs.declared.Record.{Record}
+use Rattle.fields.specs.Record.{recordOf, recordBytes}
+use Rattle.records.specs.Calls.{readRefusal, writeRefusal, answerOf, unless, zeroRecord, readRecord, written}
+use Rattle.fields.specs.declared.Record.{Record}
 use Rattle.slicefile.specs.declared.Answer.{Answer}
 use Rattle.slicefile.specs.declared.Answer.the-variants.{Refused, Done}
 use Rattle.records.specs.declared.Reading.{Reading}

@@ -1,8 +1,3 @@
-pub mod Stores
-pub mod Encoding
 pub mod Answers
-pub mod Digits
-pub mod Pieces
-pub mod Fields
 pub mod RoundTrip
 pub mod WriterRefusals

@@ -5,11 +5,11 @@ use Prim.Native.Nat.{ℕ, zero, suc, _%_, _<_, _≤_}
 use native.Mathlib.Omega.{arith}
 use lib.Dec.{ltb, eqb, lit≤}
 use Rattle.slicefile.specs.Format.{sliceTag, recordLength, bodyOf, numberByte}
-use Rattle.slicefile.specs.Rules.{given, _orElse_, headerRefusal, badSize, badChoice, badCombination, badDriver, bodyRefusal}
-use Rattle.records.specs.Record.{recordBytes, Sized}
+use Rattle.rules.specs.Rules.{given, _orElse_, headerRefusal, badSize, badChoice, badCombination, badDriver, bodyRefusal}
+use Rattle.fields.specs.Record.{recordBytes, Sized}
 use Rattle.records.specs.Calls.{recordRefusal, writeRefusal}
-use Rattle.records.specs.declared.Record.{Record}
-use Rattle.records.proofs.Encoding.{length-bodyBytes}
+use Rattle.fields.specs.declared.Record.{Record}
+use Rattle.fields.proofs.Encoding.{length-bodyBytes}
 
 pub header-written : (r : Record) → Sized r → headerRefusal sliceTag (recordBytes r) ≡ 0
 unfolding recordBytes headerRefusal

@@ -3,11 +3,11 @@ use Prim.Native.Nat.{ℕ, zero, suc}
 use mathlib.Core.Bool.{not}
 use mathlib.Core.List.{List, _++_}
 use lib.Dec.{ltb, eqb}
-use lib.ListN.{length, drop}
-use Rattle.slicefile.specs.Format.{sliceTag, recordLength, bodyOf, numberByte}
-use Rattle.slicefile.specs.Rules.{given, _orElse_, headerRefusal, badSize, bodyRefusal}
-use Rattle.records.specs.Record.{recordOf, recordBytes, zeroRecord}
-use Rattle.records.specs.declared.Record.{Record}
+use lib.ListN.{length, drop, replicate}
+use Rattle.slicefile.specs.Format.{sliceTag, bodyLength, recordLength, bodyOf, numberByte}
+use Rattle.rules.specs.Rules.{given, _orElse_, headerRefusal, badSize, bodyRefusal}
+use Rattle.fields.specs.Record.{recordOf, recordBytes}
+use Rattle.fields.specs.declared.Record.{Record}
 use Rattle.slicefile.specs.declared.Answer.{Answer}
 use Rattle.slicefile.specs.declared.Answer.the-variants.{Refused, Done}
 use Rattle.records.specs.declared.Reading.{Reading}
@@ -35,6 +35,10 @@ answerOf (suc k) = Refused (suc k) 0
 abbrev pub unless : {A : Type 0} → ℕ → A → A → A
 unless zero done kept = done
 unless (suc k) done kept = kept
+
+-- "where the answer's form has to hold one, it is all zeros"
+unfoldable pub zeroRecord : Record
+zeroRecord = recordOf (replicate (bodyLength sliceTag) 0)
 
 -- reading: the record, or all zeros
 unfoldable pub readRecord : List ℕ → ℕ → ℕ → Reading

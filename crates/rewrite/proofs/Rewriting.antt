@@ -10,12 +10,12 @@ use lib.Dec.{eqb}
 use lib.ListN.{length, take, drop, length-drop, take-append-drop}
 use lib.Seq.{sets, length-sets, sets-eq, take-all, take-add, take-at, take-append-add, length-take-le}
 use Rattle.slicefile.specs.Format.{sizeTag, sliceTag, endTag, recordLength, endRecord, byteAt, bodyOf, numberByte}
-use Rattle.slicefile.specs.Rules.{given, headerRefusal, badSize, bodyRefusal, sliceRefusal, sizeRefusal}
-use Rattle.slicefile.proofs.RecordLaws.{orElse-left, orElse-right, given-none, header-tells}
-use Rattle.slicefile.proofs.EndLaws.{end-bytes}
-use Rattle.slicefile.proofs.PrefixLaws.{slice-stays, slice-cut}
-use Rattle.records.specs.Record.{Below}
-use Rattle.records.proofs.Pieces.{piece, join, piece-byte}
+use Rattle.rules.specs.Rules.{given, headerRefusal, badSize, bodyRefusal, sliceRefusal, sizeRefusal}
+use Rattle.rules.proofs.RecordLaws.{orElse-left, orElse-right, given-none, header-tells}
+use Rattle.rules.proofs.EndLaws.{end-bytes}
+use Rattle.rules.proofs.PrefixLaws.{slice-stays, slice-cut}
+use Rattle.fields.specs.Record.{Below}
+use Rattle.fields.proofs.Pieces.{piece, join, piece-byte}
 use Rattle.records.specs.Calls.{recordRefusal, readRefusal}
 use Rattle.column.specs.File.{sliceCount, inputCount, recordStart}
 use Rattle.column.proofs.SoundLaws.{SoundFile}

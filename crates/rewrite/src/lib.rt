@@ -28,7 +28,7 @@ fn put_records(file: &[u8], n: usize, m: usize, out: &mut [u8])
     requires { ⌜ (checkFile (now file) ≡ Checked.Sound n m) × (length (now out) ≡ length (now file)) ⌝ }
     ensures { λ _. ⌜ now (out .exit) ≡ now (file .entry) ⌝ }
 {
-    records::put_bytes(out, 0, &[1, 2, 0, n as u8, m as u8]);
+    fields::put_bytes(out, 0, &[1, 2, 0, n as u8, m as u8]);
     let mut s: usize = 0;
     let mut at: usize = SIZE_RECORD;
     while s < n {
@@ -36,7 +36,7 @@ fn put_records(file: &[u8], n: usize, m: usize, out: &mut [u8])
         s += 1;
         at += SLICE_RECORD;
     }
-    records::put_bytes(out, at, &END);
+    fields::put_bytes(out, at, &END);
 }
 
 // Rewrites a file into a lent buffer of its length. A refusal writes nothing.

@@ -1,18 +1,14 @@
 -- How a call on a file goes, put together. Assumes nothing.
 use mathlib.Core.Path.{_≡_, refl, sym, subst}
-use mathlib.Core.Bool.{Bool}
 use mathlib.Core.List.{List}
 use Prim.Native.Nat.{ℕ, zero, suc, _≤_}
 use native.Mathlib.Omega.{arith}
 use lib.ListN.{length, take}
 use lib.Seq.{length-take-le}
 use Rattle.netlist.specs.Graph.{Ordered}
-use Rattle.netlist.specs.Rule.{Env}
-use Rattle.netlist.specs.Settle.{readsIn, Edited}
-use Rattle.netlist.specs.declared.Gate.{Gate}
+use Rattle.netlist.specs.Settle.{readsIn}
 use Rattle.netlist.specs.Table.{signalLimit, gateOf}
-use Rattle.netlist.proofs.Agree.{agree-sym, well-formed-agree, ordered-agree}
-use Rattle.gates.proofs.Edits.{edited-as, edited-agree}
+use Rattle.netlist.proofs.Agree.{agree-sym, ordered-agree}
 use Rattle.slicefile.specs.declared.Answer.the-variants.{Refused}
 use Rattle.slicefile.specs.Format.{sliceLimit}
 use Rattle.column.specs.Compile.{tableLength, tableLimit, Loaded}
@@ -20,8 +16,7 @@ use Rattle.column.specs.File.{signalCount, gateAt}
 use Rattle.column.specs.Judge.{Judged}
 use Rattle.column.specs.declared.Verdict.{Verdict}
 use Rattle.column.specs.declared.Verdict.the-variants.{Refused as VerdictRefused, Accepted}
-use Rattle.column.proofs.Netlist.{sound-well-formed}
-use Rattle.column.proofs.SoundLaws.{SoundFile, sound-file}
+use Rattle.column.proofs.SoundLaws.{sound-file}
 use Rattle.column.proofs.Verdicts.{accepted-sound}
 use Rattle.simulator.specs.Calls.{Called, refused, Ready}
 
@@ -63,13 +58,3 @@ loaded-front file net order v {n} {m} e l sized placed =
 
 pub loaded-refused : (file net order : List ℕ) (v : Verdict) {k p : ℕ} → v ≡ VerdictRefused k p → Loaded file net order v → Judged file (VerdictRefused k p)
 loaded-refused file net order v e l = subst (Loaded file net order) e l
-
--- an edit of the netlist in the table, by marks that say what a change touches, is one of the file
-pub edited-file : (file : List ℕ) {n m : ℕ} → SoundFile file n m → (net order : List ℕ) → Ready file n net order → {e : Env} {old new : List ℕ} (marked touches : Gate → Bool)
-    → ((gate : Gate) → marked gate ≡ touches gate) → Edited (gateOf net n) (signalCount n) e (λ x. marked (gateOf net n x)) old new
-    → Edited (gateAt file) (signalCount n) e (λ x. touches (gateAt file x)) old new
-edited-file file {n} f net order r marked touches same d =
-    edited-agree (gateOf net n) (gateAt file) (signalCount n) (r .lowered)
-    (well-formed-agree (gateAt file) (gateOf net n) (signalCount n) (agree-sym (r .lowered)) (sound-well-formed file f))
-    touches
-    (edited-as (λ x. same (gateOf net n x)) d)

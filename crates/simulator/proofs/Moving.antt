@@ -11,13 +11,14 @@ use lib.ListN.{length, getD, set, length-set}
 use lib.Seq.{getD-set-other}
 use Rattle.netlist.specs.Rule.{valueOf}
 use Rattle.netlist.specs.declared.Source.the-variants.{Constant}
-use Rattle.slicefile.specs.Rules.{bodyRefusal, sliceRefusal, headerRefusal}
+use Rattle.rules.specs.Rules.{bodyRefusal, sliceRefusal, headerRefusal}
 use Rattle.slicefile.specs.Format.{sliceTag}
-use Rattle.slicefile.proofs.RecordLaws.{orElse-right}
+use Rattle.rules.proofs.RecordLaws.{orElse-right}
 use Rattle.series7.specs.Edge.{nextFlops, nextWord}
-use Rattle.edge.specs.Moved.{Moved}
-use Rattle.edge.specs.Numbers.{edgeNumbers, flopsBy}
-use Rattle.edge.proofs.Laws.{flops-law, word-law}
+use Rattle.moves.specs.Moved.{Moved}
+use Rattle.edge.specs.Numbers.{edgeNumbers}
+use Rattle.moves.specs.Moves.{flopsBy}
+use Rattle.moves.proofs.Laws.{flops-law, word-law}
 use Rattle.column.specs.Clock.{stateOf, clocked}
 use Rattle.column.specs.File.{sliceBody}
 use Rattle.column.proofs.SoundLaws.{SoundFile}

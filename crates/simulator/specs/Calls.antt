@@ -2,23 +2,19 @@
 -- and place"; its own refusals, 10 and 11, have place 0; "a refusal writes nothing".
 use Prim.Native.Nat.{ℕ, suc}
 use mathlib.Core.Path.{_≡_}
-use mathlib.Core.Bool.{Bool}
 use mathlib.Core.List.{List}
-use lib.ListN.{length, set}
+use lib.ListN.{length}
 use Rattle.netlist.specs.Graph.{Ordered}
-use Rattle.netlist.specs.Rule.{touchesInput, touchesTable}
-use Rattle.netlist.specs.Settle.{Edited}
-use Rattle.netlist.specs.declared.Gate.{Gate}
 use Rattle.slicefile.specs.declared.Answer.{Answer}
 use Rattle.slicefile.specs.declared.Answer.the-variants.{Refused as AnswerRefused, Done}
-use Rattle.slicefile.specs.Rules.{given}
-use Rattle.column.specs.Clock.{State, stateOf, envOf, powerUp, clocked, SettledFor}
+use Rattle.rules.specs.Rules.{given}
+use Rattle.column.specs.Clock.{State, powerUp, clocked, SettledFor}
 use Rattle.column.specs.Compile.{tableLength, Lowered}
-use Rattle.column.specs.File.{signalCount, gateAt}
+use Rattle.column.specs.File.{signalCount}
 use Rattle.column.specs.Judge.{readsAt, Judged}
 use Rattle.column.specs.declared.Verdict.{Verdict}
 use Rattle.column.specs.declared.Verdict.the-variants.{Refused, Accepted}
-use Rattle.buffers.specs.Buffers.{badState, settleRefusal, editRefusal, badInput, badTable}
+use Rattle.buffers.specs.Buffers.{badState, settleRefusal}
 
 -- a call on a file, with its own refusal for n and m, what is so where nothing was written, and what is so where it was done
 pub data Called (file : List ℕ) (own : ℕ → ℕ → ℕ) (Kept : Type 0) (Did : ℕ → ℕ → Type 0) : Answer → Type 0 where
@@ -49,19 +45,3 @@ SettleCalled file st inputs old new = Called file (settleRefusal file st inputs 
 abbrev pub ClockCalled : List ℕ → State → State → List ℕ → List ℕ → List ℕ → Answer → Type 0
 ClockCalled file st moved inputs old new =
     Called file (settleRefusal file st inputs old) ((moved ≡ st) × (new ≡ old)) (λ n m. (moved ≡ clocked file st inputs new) × SettledFor file st inputs new)
-
--- the value table that an edit leaves, for the state and inputs after it: what depends on the change is recomputed, all else keeps its byte
-abbrev pub EditedFor : List ℕ → (Gate → Bool) → State → List ℕ → List ℕ → List ℕ → ℕ → Type 0
-EditedFor file touches st inputs old new n = Edited (gateAt file) (signalCount n) (envOf st inputs) (λ x. touches (gateAt file x)) old new
-
--- "edit an input": leaves its new byte, and the values
-abbrev pub InputEdited : List ℕ → State → ℕ → ℕ → List ℕ → List ℕ → List ℕ → List ℕ → Answer → Type 0
-InputEdited file st input byte inputs inputs′ old new =
-    Called file (λ n m. editRefusal (badInput m input byte) file st inputs old n m) ((inputs′ ≡ inputs) × (new ≡ old))
-    (λ n m. (inputs′ ≡ set inputs input byte) × EditedFor file (touchesInput input) st inputs′ old new n)
-
--- "edit a table's contents": leaves its new word, and the values
-abbrev pub TableEdited : List ℕ → List ℕ → List ℕ → List ℕ → ℕ → ℕ → List ℕ → List ℕ → List ℕ → Answer → Type 0
-TableEdited file contents contents′ flops table word inputs old new =
-    Called file (λ n m. editRefusal (badTable file n table word) file (stateOf contents flops) inputs old n m) ((contents′ ≡ contents) × (new ≡ old))
-    (λ n m. (contents′ ≡ set contents table word) × EditedFor file (touchesTable table) (stateOf contents′ flops) inputs old new n)

@@ -1,25 +1,20 @@
-// The calls on a slice file and lent buffers: power up, settle, clock, edit an input, edit a table's contents.
+// The calls on a slice file and lent buffers that run it: power up, settle, clock.
 ghost use mathlib.Core.Path.{_≡_};
 ghost use Prim.Native.Nat.{_*_};
 ghost use lib.ListN.{length};
 ghost use Rattle.column.specs.Check.{checkFile};
 ghost use Rattle.column.specs.Clock.{stateOf, powerUp, clocked};
 ghost use Rattle.column.specs.Judge.{Judged};
-ghost use Rattle.simulator.specs.Calls.{refusalOf, Ready, PoweredUp, SettleCalled, ClockCalled, InputEdited, TableEdited};
+ghost use Rattle.simulator.specs.Calls.{refusalOf, Ready, PoweredUp, SettleCalled, ClockCalled};
 use column::Checked;
 use column::SLICE_NUMBERS;
 use column::TABLE_LIMIT;
 use column::Verdict;
 use netlist::SIGNAL_LIMIT;
 use slicefile::Answer;
-use slicefile::INPUT_LIMIT;
-use slicefile::SLICE_LIMIT;
-
-// The most words of contents.
-const CONTENTS_LIMIT: usize = 4 * SLICE_LIMIT;
 
 // The judge's refusal as the answer of a call.
-fn refusal(v: Verdict) -> Answer
+pub fn refusal(v: Verdict) -> Answer
     ensures { λ r. ⌜ r ≡ refusalOf v ⌝ }
 {
     match v {
@@ -109,7 +104,7 @@ fn settle_accepted(
             place: 0,
         };
     }
-    gates::settle_by(net, n, order, contents, flops, inputs, values);
+    walks::settle_by(net, n, order, contents, flops, inputs, values);
     Answer::Done
 }
 
@@ -161,7 +156,7 @@ fn move_state(
     while s < n {
         let body = column::slice_body(file, n, m, s);
         let numbers = edge::edge_of(n, m, s, body);
-        edge::move_slice(&numbers, s, inputs, values, contents, flops);
+        moves::move_slice(&numbers, s, inputs, values, contents, flops);
         s += 1;
     }
 }
@@ -185,7 +180,7 @@ fn clock_accepted(
     if number != 0 {
         return Answer::Refused { number, place: 0 };
     }
-    gates::settle_by(net, n, order, contents, flops, inputs, values);
+    walks::settle_by(net, n, order, contents, flops, inputs, values);
     move_state(file, n, m, inputs, values, contents, flops);
     Answer::Done
 }
@@ -218,155 +213,5 @@ pub fn clock(
         flops,
         inputs,
         values,
-    )
-}
-
-// Edits an input of an accepted file.
-fn edit_input_accepted(
-    file: &[u8],
-    n: usize,
-    m: usize,
-    net: &[u16],
-    order: &[u16],
-    contents: &[u64],
-    flops: &[u8],
-    inputs: &mut [u8],
-    values: &mut [u8],
-    input: usize,
-    byte: u8,
-) -> Answer
-    requires { ⌜ Judged (now file) (Verdict.Accepted n m) × Ready (now file) n (now net) (now order) ⌝ }
-    ensures { λ r. ⌜ InputEdited (now (file .entry)) (stateOf (now (contents .entry)) (now (flops .entry))) input byte (now (inputs .entry)) (now (inputs .exit)) (now (values .entry)) (now (values .exit)) r ⌝ }
-{
-    let bad = (m <= input) | (1 < byte);
-    let number = buffers::edit_refusal(bad, file, n, m, contents, flops, inputs, values);
-    if number != 0 {
-        return Answer::Refused { number, place: 0 };
-    }
-    inputs[input] = byte;
-    let mut changed = [0u8; INPUT_LIMIT];
-    changed[input] = 1;
-    let edited = [0u8; 1];
-    gates::edit_by(
-        net,
-        n,
-        order,
-        contents,
-        flops,
-        inputs,
-        values,
-        &changed,
-        &edited,
-    );
-    Answer::Done
-}
-
-// Sets an outside input, and recomputes the signals that depend on it.
-pub fn edit_input(
-    file: &[u8],
-    contents: &[u64],
-    flops: &[u8],
-    inputs: &mut [u8],
-    values: &mut [u8],
-    input: usize,
-    byte: u8,
-) -> Answer
-    ensures { λ r. ⌜ InputEdited (now (file .entry)) (stateOf (now (contents .entry)) (now (flops .entry))) input byte (now (inputs .entry)) (now (inputs .exit)) (now (values .entry)) (now (values .exit)) r ⌝ }
-{
-    let mut net = [0u16; TABLE_LIMIT];
-    let mut order = [0u16; SIGNAL_LIMIT];
-    let v = column::load(file, &mut net, &mut order);
-    let Verdict::Accepted { n, m } = v else {
-        return refusal(v);
-    };
-    let numbers = SLICE_NUMBERS * n;
-    let signals = 32 * n;
-    edit_input_accepted(
-        file,
-        n,
-        m,
-        &net[..numbers],
-        &order[..signals],
-        contents,
-        flops,
-        inputs,
-        values,
-        input,
-        byte,
-    )
-}
-
-// Edits a table's contents of an accepted file.
-fn edit_table_accepted(
-    file: &[u8],
-    n: usize,
-    m: usize,
-    net: &[u16],
-    order: &[u16],
-    contents: &mut [u64],
-    flops: &[u8],
-    inputs: &[u8],
-    values: &mut [u8],
-    table: usize,
-    word: u64,
-) -> Answer
-    requires { ⌜ Judged (now file) (Verdict.Accepted n m) × Ready (now file) n (now net) (now order) ⌝ }
-    ensures { λ r. ⌜ TableEdited (now (file .entry)) (now (contents .entry)) (now (contents .exit)) (now (flops .entry)) table word (now (inputs .entry)) (now (values .entry)) (now (values .exit)) r ⌝ }
-{
-    let bad = buffers::bad_table(file, n, m, table, word);
-    let number = buffers::edit_refusal(bad, file, n, m, contents, flops, inputs, values);
-    if number != 0 {
-        return Answer::Refused { number, place: 0 };
-    }
-    contents[table] = word;
-    let changed = [0u8; 1];
-    let mut edited = [0u8; CONTENTS_LIMIT];
-    edited[table] = 1;
-    gates::edit_by(
-        net,
-        n,
-        order,
-        contents,
-        flops,
-        inputs,
-        values,
-        &changed,
-        &edited,
-    );
-    Answer::Done
-}
-
-// Sets a table's contents, and recomputes the signals that depend on them. The table is numbered as its word.
-pub fn edit_table(
-    file: &[u8],
-    contents: &mut [u64],
-    flops: &[u8],
-    inputs: &[u8],
-    values: &mut [u8],
-    table: usize,
-    word: u64,
-) -> Answer
-    ensures { λ r. ⌜ TableEdited (now (file .entry)) (now (contents .entry)) (now (contents .exit)) (now (flops .entry)) table word (now (inputs .entry)) (now (values .entry)) (now (values .exit)) r ⌝ }
-{
-    let mut net = [0u16; TABLE_LIMIT];
-    let mut order = [0u16; SIGNAL_LIMIT];
-    let v = column::load(file, &mut net, &mut order);
-    let Verdict::Accepted { n, m } = v else {
-        return refusal(v);
-    };
-    let numbers = SLICE_NUMBERS * n;
-    let signals = 32 * n;
-    edit_table_accepted(
-        file,
-        n,
-        m,
-        &net[..numbers],
-        &order[..signals],
-        contents,
-        flops,
-        inputs,
-        values,
-        table,
-        word,
     )
 }

@@ -1,4 +1,3 @@
 pub mod Lists
 pub mod Format
 pub mod Driver
-pub mod Rules

@@ -2,7 +2,8 @@
 use mathlib.Core.Path.{_≡_, sym, _∙_}
 use borrow.Author.Needs.{needs}
 use Rattle.records.specs.Calls.{readRefusal}
-use Rattle.quagmuffin.proofs.Bodies.{done-none, read-answer, read-whole, read-kept, read-stored}
+use Rattle.records.proofs.RoundTrip.{read-whole}
+use Rattle.quagmuffin.proofs.Bodies.{done-none, read-answer, read-kept, read-stored}
 use Rattle.quagmuffin.proofs.read_body.Statement.{statement}
 use Rattle.quagmuffin.proofs.read_body.Tie as tie
 

@@ -5,7 +5,7 @@ use borrow.Author.Tests.{lt-ltb, le-ltb}
 use lib.ListN.{length}
 use Rattle.records.specs.Calls.{writeRefusal}
 use Rattle.records.proofs.Answers.{write-refused, write-done}
-use Rattle.records.proofs.Stores.{sets-front}
+use Rattle.fields.proofs.Stores.{sets-front}
 use borrow.Author.Needs.{needs}
 use Rattle.records.proofs.write_record.Statement.{statement}
 use Rattle.records.proofs.write_record.Tie as tie

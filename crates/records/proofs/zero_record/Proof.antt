@@ -1,7 +1,8 @@
 -- `records::zero_record` meets its contract: the fields of zero bytes are zeros, by computation. Assumes nothing.
 use mathlib.Core.Path.{refl}
 use Rattle.slicefile.specs.Lists.{tabulate}
-use Rattle.records.specs.Record.{recordOf, zeroRecord}
+use Rattle.fields.specs.Record.{recordOf}
+use Rattle.records.specs.Calls.{zeroRecord}
 use Rattle.records.proofs.zero_record.Statement.{statement}
 use Rattle.records.proofs.zero_record.Tie as tie
 

@@ -2,7 +2,7 @@
 use mathlib.Core.Path.{_≡_, _∙_, refl, sym, ap, ap₂}
 use mathlib.Core.Bool.{false}
 use borrow.Author.Needs.{needs}
-use Rattle.slicefile.specs.Rules.{given}
+use Rattle.rules.specs.Rules.{given}
 use Rattle.column.proofs.Verdicts.{accepted-sound}
 use Rattle.column.proofs.SoundLaws.{SoundFile, sound-file}
 use Rattle.column.specs.Clock.{stateOf}

@@ -1,0 +1,116 @@
+-- `edits::edit_table_accepted` meets its contract: the marks say what a change of the contents touches. Assumes nothing.
+use mathlib.Core.Path.{_≡_, _∙_, refl, sym}
+use Prim.Native.Nat.{_*_, _<_}
+use native.Mathlib.Omega.{arith}
+use borrow.Author.Needs.{needs}
+use borrow.Author.Tests.{leb-false}
+use lib.Dec.{leb}
+use Rattle.netlist.specs.Rule.{touchesTable}
+use Rattle.slicefile.proofs.Tests.{or-left}
+use Rattle.walks.proofs.Reached.{marks-one-table}
+use Rattle.column.proofs.SoundLaws.{SoundFile, sound-file}
+use Rattle.column.proofs.Verdicts.{accepted-sound}
+use Rattle.buffers.specs.Buffers.{editRefusal, badTable, badWord}
+use Rattle.column.specs.Clock.{stateOf}
+use Rattle.simulator.specs.Calls.{done}
+use Rattle.simulator.proofs.Calls.{refused-by, ready-order}
+use Rattle.edits.proofs.Marks.{edited-file}
+use Rattle.buffers.proofs.Lengths.{Lengths, edit-lengths, edit-argument}
+use Rattle.edits.proofs.edit_table_accepted.Statement.{statement}
+use Rattle.edits.proofs.edit_table_accepted.Tie as tie
+
+fine : (c : tie.Start) → SoundFile (c .args .file .now) (c .args .n) (c .args .m)
+fine c = sound-file (c .args .file .now) (accepted-sound (c .args .file .now) (c .pre .0))
+
+bad-table-requires : tie.Need-bad-table-requires
+bad-table-requires c κs =
+    let b = c .before .before .before .before .before .before .before in
+    accepted-sound (b .args .file .now) (b .pre .0)
+
+edit-refusal-requires : tie.Need-edit-refusal-requires
+edit-refusal-requires c κs =
+    let b = c .before .before .before .before .before .before .before .before .before .before in
+    accepted-sound (b .args .file .now) (b .pre .0)
+
+same-length : tie.Need-same-length
+same-length c = search needs
+
+same-length-2 : tie.Need-same-length-2
+same-length-2 c = search needs
+
+returns : tie.Need-returns
+returns c =
+    let t = c .before .before .before .before in
+    let b = t .before .before .before .before .before .before .before .before in
+    refused-by (b .args .file .now) _ (b .pre .0) _ (rw (t .bad-table .ensures) at (c .before .edit-refusal .ensures)) (c .if1 .taken) (refl, refl)
+
+-- the edit is not refused, so the buffers have their lengths, and the table is there
+module _ (c : tie.Else1) where
+  abbrev start : tie.Start
+  start = c .before .before .before .before .before .before .before .before .before .before .before .before
+
+  none : let a = start .args in editRefusal (badTable (a .file .now) (a .n) (a .table) (a .word)) (a .file .now) (stateOf (a .contents .now) (a .flops .now)) (a .inputs .now) (a .values .now) (a .n) (a .m) ≡ 0
+  none = sym (rw (c .before .before .before .before .bad-table .ensures) at (c .before .edit-refusal .ensures)) ∙ c .if1 .left
+
+  fit : let a = start .args in Lengths (a .n) (a .m) (stateOf (a .contents .now) (a .flops .now)) (a .inputs .now) (a .values .now)
+  fit = let a = start .args in edit-lengths (badTable (a .file .now) (a .n) (a .table) (a .word)) (a .file .now) (stateOf (a .contents .now) (a .flops .now)) (a .inputs .now) (a .values .now) (a .n) (a .m) none
+
+  there : start .args .table < 4 * start .args .n
+  there =
+      let a = start .args in
+      let good = edit-argument (badTable (a .file .now) (a .n) (a .table) (a .word)) (a .file .now) (stateOf (a .contents .now) (a .flops .now)) (a .inputs .now) (a .values .now) (a .n) (a .m) none in
+      leb-false (4 * a .n) (a .table) (or-left (leb (4 * a .n) (a .table)) (badWord (a .file .now) (a .table) (a .word)) good)
+
+mul-contents : tie.Need-mul-contents
+mul-contents c = omega (arith, there c, fine (start c) .slices-fit)
+
+slice-write-contents : tie.Need-slice-write-contents
+slice-write-contents c = omega (arith, there c, fit c .contents)
+
+array-write-edited : tie.Need-array-write-edited
+array-write-edited c = omega (arith, there c, fine (start c) .slices-fit)
+
+slice-aggregate-edit-by : tie.Need-slice-aggregate-edit-by
+slice-aggregate-edit-by c = search needs
+
+slice-aggregate-edit-by-2 : tie.Need-slice-aggregate-edit-by-2
+slice-aggregate-edit-by-2 c = search needs
+
+edit-by-requires : tie.Need-edit-by-requires
+edit-by-requires c κs =
+    let e = c .before .before .before .before in
+    let b = start e in
+    ((omega (arith, fine b .slices-fit), b .pre .1 .sized, fit e .values), ready-order (b .args .file .now) (b .args .n) (b .args .net .now) (b .args .order .now) (b .pre .1))
+
+same-length-3 : tie.Need-same-length-3
+same-length-3 c = search needs
+
+same-length-4 : tie.Need-same-length-4
+same-length-4 c = search needs
+
+returns-2 : tie.Need-returns-2
+returns-2 c =
+    let k = c .before .before in
+    let e = k .before .before .before .before .before in
+    let b = start e in
+    done (b .pre .0) (none e)
+    (refl, edited-file (b .args .file .now) (fine b) (b .args .net .now) (b .args .order .now) (b .pre .1) _ (touchesTable (b .args .table)) (marks-one-table 1 256 (b .args .table) (omega (arith, there e, fine b .slices-fit))) (k .edit-by .ensures))
+
+pub edit-table-accepted-spec : {M : Type 1} → statement M
+edit-table-accepted-spec =
+    tie.close
+    (tie.spec
+    bad-table-requires
+    edit-refusal-requires
+    same-length
+    same-length-2
+    returns
+    mul-contents
+    slice-write-contents
+    array-write-edited
+    slice-aggregate-edit-by
+    slice-aggregate-edit-by-2
+    edit-by-requires
+    same-length-3
+    same-length-4
+    returns-2)

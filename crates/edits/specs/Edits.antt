@@ -1,0 +1,31 @@
+-- What the two edits answer and leave. "After an edit that isn't refused the inputs and contents are the old ones with only the named byte or word
+-- replaced."
+use Prim.Native.Nat.{ℕ}
+use mathlib.Core.Path.{_≡_}
+use mathlib.Core.Bool.{Bool}
+use mathlib.Core.List.{List}
+use lib.ListN.{set}
+use Rattle.netlist.specs.Rule.{touchesInput, touchesTable}
+use Rattle.netlist.specs.Settle.{Edited}
+use Rattle.netlist.specs.declared.Gate.{Gate}
+use Rattle.slicefile.specs.declared.Answer.{Answer}
+use Rattle.column.specs.Clock.{State, stateOf, envOf}
+use Rattle.column.specs.File.{signalCount, gateAt}
+use Rattle.buffers.specs.Buffers.{editRefusal, badInput, badTable}
+use Rattle.simulator.specs.Calls.{Called}
+
+-- the value table that an edit leaves, for the state and inputs after it: what depends on the change is recomputed, all else keeps its byte
+abbrev pub EditedFor : List ℕ → (Gate → Bool) → State → List ℕ → List ℕ → List ℕ → ℕ → Type 0
+EditedFor file touches st inputs old new n = Edited (gateAt file) (signalCount n) (envOf st inputs) (λ x. touches (gateAt file x)) old new
+
+-- "edit an input": leaves its new byte, and the values
+abbrev pub InputEdited : List ℕ → State → ℕ → ℕ → List ℕ → List ℕ → List ℕ → List ℕ → Answer → Type 0
+InputEdited file st input byte inputs inputs′ old new =
+    Called file (λ n m. editRefusal (badInput m input byte) file st inputs old n m) ((inputs′ ≡ inputs) × (new ≡ old))
+    (λ n m. (inputs′ ≡ set inputs input byte) × EditedFor file (touchesInput input) st inputs′ old new n)
+
+-- "edit a table's contents": leaves its new word, and the values
+abbrev pub TableEdited : List ℕ → List ℕ → List ℕ → List ℕ → ℕ → ℕ → List ℕ → List ℕ → List ℕ → Answer → Type 0
+TableEdited file contents contents′ flops table word inputs old new =
+    Called file (λ n m. editRefusal (badTable file n table word) file (stateOf contents flops) inputs old n m) ((contents′ ≡ contents) × (new ≡ old))
+    (λ n m. (contents′ ≡ set contents table word) × EditedFor file (touchesTable table) (stateOf contents′ flops) inputs old new n)

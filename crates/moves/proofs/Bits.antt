@@ -1,0 +1,70 @@
+-- Bits of a word, and the number on a row of sources. Assumes nothing.
+use mathlib.Core.Path.{_≡_, _∙_, sym, ap, subst, subst⁻¹}
+use mathlib.Core.List.{List, [], _∷_, map}
+use Prim.Native.Nat.{ℕ, zero, suc, _+_, _-_, _*_, _/_, _%_, _^_, _≤_, _<_}
+use native.Mathlib.Nat.{mod-lt, mul-le-mul-right, one-mul, two-pow-succ}
+use native.Mathlib.Numerals.{add-one}
+use native.Mathlib.Omega.{arith}
+use lib.Arith.{digits-lt}
+use lib.ListN.{getD}
+use lib.Pow.{pow-pos, pow-add, shl-exact, shr-lt, shr-shr, split, mod-pow-add}
+use Rattle.netlist.specs.Rule.{bitAt, number}
+use Rattle.netlist.specs.Table.{sourceOf}
+use Rattle.netlist.specs.declared.Source.{Source}
+use Rattle.slicefile.specs.Lists.{tabulate}
+use Rattle.series7.specs.Edge.{withBit}
+use Rattle.moves.specs.Moves.{numberOn}
+
+-- the number on k bits of a number, from bit j
+bits-from : (k j x : ℕ) → number (tabulate j k (bitAt x)) ≡ x / 2 ^ j % 2 ^ k
+unfolding tabulate
+bits-from zero j x = omega arith
+bits-from (suc k) j x =
+    let y = x / 2 ^ j in
+    let half : y / 2 ≡ x / 2 ^ suc j = shr-shr x j 1 ∙ ap (λ (i : ℕ). x / 2 ^ i) (add-one j) in
+    let low : y % 2 ^ suc k ≡ y / 2 % 2 ^ k * 2 + y % 2 = subst (λ (i : ℕ). y % 2 ^ i ≡ y / 2 % 2 ^ k * 2 + y % 2) (add-one k) (mod-pow-add y k 1) in
+    rw (bits-from k (suc j) x, ← half, low) (omega arith)
+
+-- a byte is its eight bits
+pub eight-bits : (x : ℕ) → number (map (bitAt x) (0 ∷ 1 ∷ 2 ∷ 3 ∷ 4 ∷ 5 ∷ 6 ∷ 7 ∷ [])) ≡ x % 256
+unfolding tabulate
+eight-bits x = bits-from 8 0 x ∙ omega arith
+
+-- a power that fits
+pub power : (i : ℕ) → i < 64 → (1 * 2 ^ i) % 2 ^ 64 ≡ 2 ^ i
+power i h = shl-exact 1 i 64 (omega arith) (omega arith) ∙ one-mul (2 ^ i)
+
+module _ (c i : ℕ) where
+  -- a word by what stands above bit i, that bit, and what stands below
+  parts : c ≡ c / 2 ^ (1 + i) * 2 ^ (1 + i) + (bitAt c i * 2 ^ i + c % 2 ^ i)
+  parts = sym (split c (1 + i)) ∙ ap (λ (x : ℕ). c / 2 ^ (1 + i) * 2 ^ (1 + i) + x) (mod-pow-add c 1 i)
+
+  pub bit-below : bitAt c i * 2 ^ i ≤ c
+  bit-below = omega (arith, parts)
+
+  -- a word with one bit set anew still fits
+  pub with-bit-fits : (b : ℕ) → i < 64 → c < 2 ^ 64 → b < 2 → withBit c i b < 2 ^ 64
+  with-bit-fits b h fits small =
+      let p = 2 ^ (1 + i) in
+      let whole : 63 - i + (1 + i) ≡ 64 = omega arith in
+      let double : p ≡ 2 * 2 ^ i = pow-add 2 1 i in
+      let bit : b * 2 ^ i ≤ 1 * 2 ^ i = mul-le-mul-right (2 ^ i) (omega arith) in
+      let rest : c % 2 ^ i + b * 2 ^ i < p = omega (arith, mod-lt c (pow-pos i), one-mul (2 ^ i)) in
+      let top : c / p < 2 ^ (63 - i) = shr-lt (63 - i) (1 + i) (subst⁻¹ (λ (k : ℕ). c < 2 ^ k) whole fits) in
+      let all : 2 ^ (63 - i) * p ≡ 2 ^ 64 = sym (pow-add 2 (63 - i) (1 + i)) ∙ ap (λ (k : ℕ). 2 ^ k) whole in
+      omega (arith, parts, digits-lt top rest)
+
+module _ (v : Source → ℕ) (e : List ℕ) (i j k : ℕ) (more : 0 < j) (fits : j ≤ k) where
+  one-more : k - (j - 1) ≡ suc (k - j)
+  one-more = omega arith
+
+  -- one more source, below those that are counted
+  pub number-more :
+      numberOn v e (i + (j - 1)) (k - (j - 1)) ≡ v (sourceOf (getD e (i + (j - 1)) 0)) + 2 * numberOn v e (i + j) (k - j)
+  unfolding numberOn
+  number-more =
+      let place : suc (i + (j - 1)) ≡ i + j = omega arith in
+      rw (one-more, place)
+
+  pub small-more : {number b : ℕ} → number < 2 ^ (k - j) → b < 2 → b + 2 * number < 2 ^ (k - (j - 1))
+  small-more h small = rw one-more (omega (arith, two-pow-succ (k - j)))

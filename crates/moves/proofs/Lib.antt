@@ -1,0 +1,5 @@
+pub mod Bits
+pub mod Byte
+pub mod Moving
+pub mod MemoryRule
+pub mod Laws
