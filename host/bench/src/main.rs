@@ -1,138 +1,132 @@
-//! How long each call of the library takes, on columns of 1 to 64 slices with deep wiring. Nothing here passes or fails.
+//! How long each call of the library takes on columns of 1 to 64 slices, and how much stack. Nothing here passes or fails.
+//! Given a call and a file, makes that call once, for a profiler.
 
-mod columns;
-mod timing;
+use bench::calls::{on_library, on_model, Bench, Call};
+use bench::columns::{self, NAMED};
+use bench::stack::depth;
+use bench::timing::{Spread, Times, ROUNDS, RUN};
+use std::hint::black_box;
 
-use columns::{deep, looped_all, looped_each};
-use model::{Simulator, Workings};
-use program::column::Column;
-use timing::{fastest, RUNS};
-
-/// A powered-up, settled column and the buffers of its calls.
-struct Bench {
-    file: Vec<u8>,
-    contents: Vec<u64>,
-    flops: Vec<u8>,
-    inputs: Vec<u8>,
-    values: Vec<u8>,
-}
-
-impl Bench {
-    fn settled(n: usize) -> Bench {
-        let mut bench = Bench {
-            file: deep(n).bytes(),
-            contents: vec![0; 4 * n],
-            flops: vec![0; n],
-            inputs: vec![1; 64],
-            values: vec![0; 32 * n],
-        };
-        library::power_up(&bench.file, &mut bench.contents, &mut bench.flops).expect("sound");
-        bench.settle();
-        bench
-    }
-
-    fn settle(&mut self) {
-        library::settle(
-            &self.file,
-            &self.contents,
-            &self.flops,
-            &self.inputs,
-            &mut self.values,
-        )
-        .expect("sound");
-    }
-
-    fn clock(&mut self) {
-        library::clock(
-            &self.file,
-            &mut self.contents,
-            &mut self.flops,
-            &self.inputs,
-            &mut self.values,
-        )
-        .expect("sound");
-    }
-
-    fn edit_input(&mut self) {
-        let byte = 1 - self.inputs[0];
-        library::edit_input(
-            &self.file,
-            &self.contents,
-            &self.flops,
-            &mut self.inputs,
-            &mut self.values,
-            0,
-            byte,
-        )
-        .expect("sound");
-    }
-
-    fn edit_table(&mut self) {
-        let word = !self.contents[0];
-        library::edit_table(
-            &self.file,
-            &mut self.contents,
-            &self.flops,
-            &self.inputs,
-            &mut self.values,
-            0,
-            word,
-        )
-        .expect("sound");
-    }
-}
-
-/// Nanoseconds of one call of each kind: judge, settle, clock, edit of an input, edit of a table.
-fn library_calls(n: usize) -> [f64; 5] {
-    let mut bench = Bench::settled(n);
-    [
-        fastest(|| library::judge(&bench.file)),
-        fastest(|| bench.settle()),
-        fastest(|| bench.clock()),
-        fastest(|| bench.edit_input()),
-        fastest(|| bench.edit_table()),
-    ]
-}
-
-/// The same of the second program, which is given the file anew in every call, as the library is.
-fn model_calls(n: usize) -> [f64; 5] {
-    let b = &mut Bench::settled(n);
-    let file = b.file.clone();
-    let column = || Simulator::new(Workings::paper(), &file);
-    let (contents, flops) = (&mut b.contents, &mut b.flops);
-    let (inputs, values) = (&mut b.inputs, &mut b.values);
-    [
-        fastest(|| model::judge(&file)),
-        fastest(|| column().settle(contents, flops, inputs, values)),
-        fastest(|| column().clock(contents, flops, inputs, values)),
-        fastest(|| column().edit_input(contents, flops, inputs, values, 0, 1)),
-        fastest(|| column().edit_table(contents, flops, inputs, values, 0, 1)),
-    ]
-}
-
-fn line(name: &str, numbers: [f64; 5], digits: usize) {
-    let columns = numbers.map(|number| format!("{number:11.digits$}"));
-    println!("{name:>22}{}", columns.concat());
-}
-
-fn looped(name: &str, column: Column, accepted: f64) {
-    let file = column.bytes();
-    let ratio = fastest(|| library::judge(&file)) / accepted;
-    println!("judge, 64 slices, {name}: {ratio:.2} times an accepted file");
-}
+const SIZES: [usize; 7] = [1, 2, 4, 8, 16, 32, 64];
 
 fn main() {
-    println!("the fastest of {RUNS} runs; nanoseconds a call");
-    println!("                slices      judge     settle      clock edit input edit table");
-    for n in [1, 2, 4, 8, 16, 32] {
-        line(&n.to_string(), library_calls(n), 0);
+    let arguments: Vec<String> = std::env::args().skip(1).collect();
+    match &arguments[..] {
+        [] => report(),
+        [call, file] => once(call, file),
+        _ => eprintln!("usage: bench [CALL FILE]"),
     }
-    let calls = library_calls(64);
-    line("64", calls, 0);
-    line("64, a signal", calls.map(|time| time / 2048.0), 1);
-    let model = model_calls(64);
-    let ratios: [f64; 5] = std::array::from_fn(|i| model[i] / calls[i]);
-    line("64, second program x", ratios, 1);
-    looped("one loop through every table", looped_all(64), calls[0]);
-    looped("a loop in every slice", looped_each(64), calls[0]);
+}
+
+fn report() {
+    println!("A number from the fastest runs, then median (quartiles) over {ROUNDS} rounds of runs of {RUN:?}.");
+    full_column("deep");
+    full_column("irregular");
+    judged_files();
+    growth();
+    stack();
+}
+
+/// A call, by its name, once on a column of 64 slices, by its name.
+fn once(call: &str, file: &str) {
+    let call = Call::ALL.into_iter().find(|known| known.name() == call);
+    let answer = named(file).library(call.expect("a call's name"));
+    println!("{answer:?}");
+}
+
+/// The column of 64 slices of a name.
+fn named(name: &str) -> Bench {
+    let column = NAMED.iter().find(|(known, _)| *known == name);
+    Bench::new(column.expect("a column's name").1(64).bytes())
+}
+
+fn line(name: &str, spread: Spread, digits: usize, note: &str) {
+    let write = |number: f64| format!("{number:.digits$}");
+    let quartiles = format!("({} to {})", write(spread.lower), write(spread.upper));
+    let (fastest, median) = (write(spread.fastest), write(spread.median));
+    println!("  {name:<34}{fastest:>8}{median:>9} {quartiles:<20}{note}");
+}
+
+/// The timed calls on a full column: library and second program in the same rounds.
+fn full_column(name: &str) {
+    let bench = named(name);
+    let calls = Call::TIMED.iter();
+    let library = calls.clone().map(|&call| on_library(bench.clone(), call));
+    let model = calls.clone().map(|&call| on_model(bench.clone(), call));
+    let times = Times::of(library.chain(model).collect());
+    println!("\n{name}, 64 slices: microseconds a call");
+    for (i, call) in calls.clone().enumerate() {
+        let signal = 1e3 * times.call(i).median / 2048.0;
+        let note = format!("{signal:.1} ns a signal");
+        line(call.name(), times.call(i), 1, &note);
+    }
+    println!("more than the judge, microseconds");
+    for (i, call) in calls.clone().enumerate().skip(1) {
+        line(call.name(), times.difference(i, 0), 1, "");
+    }
+    println!("the second program, times the library");
+    for (i, call) in calls.enumerate() {
+        line(call.name(), times.ratio(Call::TIMED.len() + i, i), 2, "");
+    }
+}
+
+/// The judge on every column, beside the deep one and beside the accepted one of its kind.
+fn judged_files() {
+    let judge = |&(name, _): &(&str, _)| on_library(named(name), Call::Judge);
+    let times = Times::of(NAMED.iter().map(judge).collect());
+    println!("\nthe judge on 64 slices, times the deep column");
+    for (i, (name, _)) in NAMED.iter().enumerate() {
+        let note = match named(name).library(Call::Judge) {
+            Ok(()) => "accepted".to_string(),
+            Err(refused) => format!("refused {} {}", refused.number, refused.place),
+        };
+        line(name, times.ratio(i, 0), 2, &note);
+    }
+    println!("times the accepted column of its kind");
+    for (i, (name, _)) in NAMED.iter().enumerate() {
+        if let Some((kind, "looped" | "each looped")) = name.split_once(' ') {
+            let accepted = NAMED.iter().position(|(name, _)| *name == kind);
+            line(name, times.ratio(i, accepted.expect("its kind")), 2, "");
+        }
+    }
+}
+
+/// Each timed call on the deep column of each size.
+fn growth() {
+    let sized = |&n: &usize| Bench::new(columns::deep(n).bytes());
+    let benches: Vec<Bench> = SIZES.iter().map(sized).collect();
+    let timed = |&call: &Call| benches.iter().map(move |b| on_library(b.clone(), call));
+    let times = Times::of(Call::TIMED.iter().flat_map(timed).collect());
+    println!("\ndeep, by slices: microseconds a slice, fastest");
+    let names = Call::TIMED
+        .iter()
+        .map(|call| format!("{:>12}", call.name()));
+    println!("  slices{}", names.collect::<String>());
+    for (i, n) in SIZES.into_iter().enumerate() {
+        let slice = |k| times.call(SIZES.len() * k + i).fastest / n as f64;
+        let line = (0..Call::TIMED.len()).map(|k| format!("{:12.2}", slice(k)));
+        println!("  {n:>6}{}", line.collect::<String>());
+    }
+    println!("a slice of 64, times a slice of 1");
+    for (k, call) in Call::TIMED.iter().enumerate() {
+        let first = SIZES.len() * k;
+        let growth = times.ratio(first + SIZES.len() - 1, first);
+        line(call.name(), growth.scaled(1.0 / 64.0), 2, "");
+    }
+}
+
+/// The deepest stack of each call over all columns.
+fn stack() {
+    println!(
+        "\nbytes of stack, the most over all columns of 64 slices, the wrapper in Rust included"
+    );
+    for call in Call::ALL {
+        let depths = NAMED.iter().map(|(name, _)| {
+            let mut bench = named(name);
+            depth(move || {
+                let _ = black_box(bench.library(call));
+            })
+        });
+        println!("  {:<34}{:>8}", call.name(), depths.max().unwrap_or(0));
+    }
 }

@@ -1,0 +1,6 @@
+//! What the benchmarks measure with: columns, calls, times and stack.
+
+pub mod calls;
+pub mod columns;
+pub mod stack;
+pub mod timing;
