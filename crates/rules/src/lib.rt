@@ -94,7 +94,8 @@ fn bad_driver(n: usize, m: usize, body: &[u8]) -> bool
     let mut found = false;
     let mut p = 0;
     while p < PIN_COUNT {
-        found = is_missing(slicefile::decode_driver(slicefile::pair_at(body, 62 + 2 * p), n, m)) | found;
+        found = is_missing(slicefile::decode_driver(slicefile::pair_at(body, 62 + 2 * p), n, m))
+            | found;
         p += 1;
     }
     found
