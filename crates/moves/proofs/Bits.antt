@@ -1,19 +1,15 @@
--- Bits of a word, and the number on a row of sources. Assumes nothing.
+-- Bits of a word. Assumes nothing.
 use mathlib.Core.Path.{_≡_, _∙_, sym, ap, subst, subst⁻¹}
-use mathlib.Core.List.{List, [], _∷_, map}
+use mathlib.Core.List.{[], _∷_, map}
 use Prim.Native.Nat.{ℕ, zero, suc, _+_, _-_, _*_, _/_, _%_, _^_, _≤_, _<_}
-use native.Mathlib.Nat.{mod-lt, mul-le-mul-right, one-mul, two-pow-succ}
+use native.Mathlib.Nat.{mod-lt, mul-le-mul-right, one-mul}
 use native.Mathlib.Numerals.{add-one}
 use native.Mathlib.Omega.{arith}
 use lib.Arith.{digits-lt}
-use lib.ListN.{getD}
 use lib.Pow.{pow-pos, pow-add, shl-exact, shr-lt, shr-shr, split, mod-pow-add}
 use Rattle.netlist.specs.Rule.{bitAt, number}
-use Rattle.netlist.specs.Table.{sourceOf}
-use Rattle.netlist.specs.declared.Source.{Source}
 use Rattle.slicefile.specs.Lists.{tabulate}
 use Rattle.series7.specs.Edge.{withBit}
-use Rattle.moves.specs.Moves.{numberOn}
 
 -- the number on k bits of a number, from bit j
 bits-from : (k j x : ℕ) → number (tabulate j k (bitAt x)) ≡ x / 2 ^ j % 2 ^ k
@@ -53,18 +49,3 @@ module _ (c i : ℕ) where
       let top : c / p < 2 ^ (63 - i) = shr-lt (63 - i) (1 + i) (subst⁻¹ (λ (k : ℕ). c < 2 ^ k) whole fits) in
       let all : 2 ^ (63 - i) * p ≡ 2 ^ 64 = sym (pow-add 2 (63 - i) (1 + i)) ∙ ap (λ (k : ℕ). 2 ^ k) whole in
       omega (arith, parts, digits-lt top rest)
-
-module _ (v : Source → ℕ) (e : List ℕ) (i j k : ℕ) (more : 0 < j) (fits : j ≤ k) where
-  one-more : k - (j - 1) ≡ suc (k - j)
-  one-more = omega arith
-
-  -- one more source, below those that are counted
-  pub number-more :
-      numberOn v e (i + (j - 1)) (k - (j - 1)) ≡ v (sourceOf (getD e (i + (j - 1)) 0)) + 2 * numberOn v e (i + j) (k - j)
-  unfolding numberOn
-  number-more =
-      let place : suc (i + (j - 1)) ≡ i + j = omega arith in
-      rw (one-more, place)
-
-  pub small-more : {number b : ℕ} → number < 2 ^ (k - j) → b < 2 → b + 2 * number < 2 ^ (k - (j - 1))
-  small-more h small = rw one-more (omega (arith, two-pow-succ (k - j)))

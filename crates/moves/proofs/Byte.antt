@@ -4,7 +4,8 @@ use mathlib.Core.List.{List}
 use Prim.Native.Nat.{ℕ, _%_}
 use borrow.Author.Tests.{eq-eqb, ne-eqb}
 use Rattle.netlist.specs.declared.Source.{Source}
-use Rattle.moves.specs.Moves.{edgeCe, edgeSr, edgeValues, numberOn, bitBy, flopsBy}
+use Rattle.gates.specs.Codes.{numberOn}
+use Rattle.moves.specs.Moves.{edgeCe, edgeSr, edgeValues, bitBy, flopsBy}
 use Rattle.moves.proofs.Bits.{eight-bits}
 
 module _ (v : Source → ℕ) (e : List ℕ) (old : ℕ) where

@@ -20,7 +20,8 @@ use Rattle.series7.specs.Signals.{pinSource, own, wideSignal}
 use Rattle.series7.specs.Edge.{mainSource, secondSource, flopSource, nextBit, nextFlops, writeAddress, written, nextWord}
 use Rattle.series7.proofs.GateLaws.{either, pin-fits}
 use Rattle.edge.specs.Numbers.{resetCode, addressCode, kindOf, tableKind, writeCode, dataCode, edgeNumber, edgeNumbers}
-use Rattle.moves.specs.Moves.{edgeWe, edgeFlop, edgeWrite, edgeKind, numberOn, addressBy, bitBy, flopsBy, writtenBy, wordBy}
+use Rattle.gates.specs.Codes.{numberOn}
+use Rattle.moves.specs.Moves.{edgeWe, edgeFlop, edgeWrite, edgeKind, addressBy, bitBy, flopsBy, writtenBy, wordBy}
 use Rattle.moves.proofs.MemoryRule.{memory-with-d}
 
 -- what holds of six, and of what stands past them, holds of whichever is chosen

@@ -1,12 +1,13 @@
 -- One clock edge over the numbers of a slice. v gives the bit on a source, in the table settled before the edge.
 use mathlib.Core.Bool.{cond}
 use mathlib.Core.List.{List, [], _∷_, map}
-use Prim.Native.Nat.{ℕ, zero, suc, _+_, _*_}
+use Prim.Native.Nat.{ℕ, _+_}
 use lib.Dec.{eqb}
 use lib.ListN.{getD}
 use Rattle.netlist.specs.Rule.{bitAt, number}
 use Rattle.netlist.specs.Table.{sourceOf}
 use Rattle.netlist.specs.declared.Source.{Source}
+use Rattle.gates.specs.Codes.{numberOn}
 use Rattle.series7.specs.Edge.{withBit, shifted}
 
 -- the parts of a list of numbers: the sources of CE, SR, WE, of bit b of the flip-flop byte and of letter l's write data
@@ -31,11 +32,6 @@ edgeValues e = getD e 17 0
 
 abbrev pub edgeKind : List ℕ → ℕ → ℕ
 edgeKind e l = getD e (18 + l) 0
-
--- the number on the k sources from place i, lowest first
-unfoldable pub numberOn : (Source → ℕ) → List ℕ → ℕ → ℕ → ℕ
-numberOn v e i zero = 0
-numberOn v e i (suc k) = v (sourceOf (getD e i 0)) + 2 * numberOn v e (suc i) k
 
 -- the write address: "the same for all four"
 abbrev pub addressBy : (Source → ℕ) → List ℕ → ℕ

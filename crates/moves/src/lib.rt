@@ -1,48 +1,25 @@
 // One clock edge of a slice, from its plain numbers: what it does to the slice's flip-flop byte and contents words.
 ghost use mathlib.Core.Path.{_≡_};
-ghost use Prim.Native.Nat.{_+_, _*_, _^_, _<_, _≤_};
+ghost use Prim.Native.Nat.{_+_, _*_, _<_, _≤_};
 ghost use lib.ListN.{length, getD, set};
 ghost use Rattle.netlist.specs.Rule.{bitAt, valueOf};
-ghost use Rattle.netlist.specs.Table.{sourceOf};
 ghost use Rattle.series7.specs.Edge.{withBit, shifted};
 ghost use Rattle.edge.specs.Numbers.{edgeLength};
-ghost use Rattle.moves.specs.Moves.{numberOn, flopsBy, wordBy};
+ghost use Rattle.moves.specs.Moves.{flopsBy, wordBy};
 ghost use Rattle.moves.specs.Moved.{Moved};
-
-// The bit on the source of a code.
-fn code_value(code: u16, inputs: &[u8], values: &[u8]) -> u8
-    ensures { λ r. ⌜ (r ≡ valueOf (now (inputs .entry)) (now (values .entry)) (sourceOf code)) × (r < 2) ⌝ }
-{
-    gates::source_value(gates::source_of(code), inputs, values)
-}
-
-// The number on the k sources from place i, lowest first.
-fn number_on(edge: &[u16], i: usize, k: usize, inputs: &[u8], values: &[u8]) -> u8
-    requires { ⌜ (i + k ≤ length (now edge)) × (k ≤ 8) ⌝ }
-    ensures { λ r. ⌜ (r ≡ numberOn (valueOf (now (inputs .entry)) (now (values .entry))) (now (edge .entry)) i k) × (r < 2 ^ k) ⌝ }
-{
-    let mut number: u8 = 0;
-    let mut j = k;
-    while 0 < j {
-        j -= 1;
-        let b = code_value(edge[i + j], inputs, values);
-        number = b + 2 * number;
-    }
-    number
-}
 
 // The flip-flop byte of a slice after the edge.
 pub fn next_flops(edge: &[u16], inputs: &[u8], values: &[u8], old: u8) -> u8
     requires { ⌜ length (now edge) ≡ edgeLength ⌝ }
     ensures { λ r. ⌜ r ≡ flopsBy (valueOf (now (inputs .entry)) (now (values .entry))) (now (edge .entry)) old ⌝ }
 {
-    let reset = code_value(edge[1], inputs, values);
+    let reset = gates::code_value(edge[1], inputs, values);
     if reset == 1 {
         return (edge[17] % 256) as u8;
     }
-    let enable = code_value(edge[0], inputs, values);
+    let enable = gates::code_value(edge[0], inputs, values);
     if enable == 1 {
-        return number_on(edge, 9, 8, inputs, values);
+        return gates::number_on(edge, 9, 8, inputs, values);
     }
     old
 }
@@ -76,7 +53,7 @@ pub fn next_word(edge: &[u16], l: usize, inputs: &[u8], values: &[u8], old: u64,
     requires { ⌜ (length (now edge) ≡ edgeLength) × (l < 4) ⌝ }
     ensures { λ r. ⌜ r ≡ wordBy (valueOf (now (inputs .entry)) (now (values .entry))) (now (edge .entry)) l old next ⌝ }
 {
-    let enable = code_value(edge[2], inputs, values);
+    let enable = gates::code_value(edge[2], inputs, values);
     if enable != 1 {
         return old;
     }
@@ -84,9 +61,9 @@ pub fn next_word(edge: &[u16], l: usize, inputs: &[u8], values: &[u8], old: u64,
     if kind == 0 {
         return old;
     }
-    let bit = code_value(edge[22 + l], inputs, values);
+    let bit = gates::code_value(edge[22 + l], inputs, values);
     if kind == 1 {
-        let address = number_on(edge, 3, 6, inputs, values);
+        let address = gates::number_on(edge, 3, 6, inputs, values);
         return with_bit(old, address, bit);
     }
     if kind == 2 {

@@ -18,8 +18,8 @@ use Rattle.netlist.specs.Settle.{isMarked, anyMarked}
 use Rattle.walks.specs.Marked.{sourceReached, tableMarked, touchesMarked}
 
 -- an "or" of what its two tests say
-pub or-next : {r a b a′ b′ : Bool} → r ≡ (a || b) → a ≡ a′ → b ≡ b′ → r ≡ (a′ || b′)
-or-next e ea eb = e ∙ ap₂ (λ (x y : Bool). x || y) ea eb
+pub or-both : {a b a′ b′ : Bool} → a ≡ a′ → b ≡ b′ → (a || b) ≡ (a′ || b′)
+or-both ea eb = ap₂ (λ (x y : Bool). x || y) ea eb
 
 or-middle : (a b c : Bool) → (a || (b || c)) ≡ (b || (a || c))
 or-middle true true c = refl
@@ -77,13 +77,13 @@ one-mark m j h k = go (ℕ-discrete k j)
 inputs-one : (m j : ℕ) → j < m → (ss : List Source) → anySource (sourceReached (set (replicate m 0) j 1) []) ss ≡ anySource (isInput j) ss
 inputs-one m j h [] = refl
 inputs-one m j h (Constant b ∷ ss) = inputs-one m j h ss
-inputs-one m j h (Input k ∷ ss) = ap₂ (λ (a b : Bool). a || b) (one-mark m j h k) (inputs-one m j h ss)
+inputs-one m j h (Input k ∷ ss) = or-both (one-mark m j h k) (inputs-one m j h ss)
 inputs-one m j h (Signal y ∷ ss) = inputs-one m j h ss
 
 inputs-none : (m : ℕ) (ss : List Source) → anySource (sourceReached (replicate m 0) []) ss ≡ false
 inputs-none m [] = refl
 inputs-none m (Constant b ∷ ss) = inputs-none m ss
-inputs-none m (Input k ∷ ss) = ap₂ (λ (a b : Bool). a || b) (no-mark m k) (inputs-none m ss)
+inputs-none m (Input k ∷ ss) = or-both (no-mark m k) (inputs-none m ss)
 inputs-none m (Signal y ∷ ss) = inputs-none m ss
 
 -- where one table is marked, a gate belongs to a marked table where it belongs to that one
@@ -107,9 +107,9 @@ tables-none t (Stored k) = refl
 pub marks-one-input : (m t j : ℕ) → j < m → (gate : Gate) → touchesMarked (set (replicate m 0) j 1) (replicate t 0) gate ≡ touchesInput j gate
 unfolding touchesMarked touchesInput
 marks-one-input m t j h gate =
-    ap₂ (λ (a b : Bool). a || b) (inputs-one m j h (sourcesOf gate)) (tables-none t gate) ∙ or-false (anySource (isInput j) (sourcesOf gate))
+    or-both (inputs-one m j h (sourcesOf gate)) (tables-none t gate) ∙ or-false (anySource (isInput j) (sourcesOf gate))
 
 -- marking one table and no input is the change of its contents
 pub marks-one-table : (m t u : ℕ) → u < t → (gate : Gate) → touchesMarked (replicate m 0) (set (replicate t 0) u 1) gate ≡ touchesTable u gate
 unfolding touchesMarked
-marks-one-table m t u h gate = ap₂ (λ (a b : Bool). a || b) (inputs-none m (sourcesOf gate)) (tables-one t u h gate)
+marks-one-table m t u h gate = or-both (inputs-none m (sourcesOf gate)) (tables-one t u h gate)

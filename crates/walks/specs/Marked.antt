@@ -1,19 +1,26 @@
 -- A change given by marks: a byte for each outside input and one for each table, not 0 where it changes. Past the end nothing is marked.
 use mathlib.Core.Bool.{Bool, false, _||_}
 use mathlib.Core.List.{List, []}
-use Prim.Native.Nat.{ℕ}
+use Prim.Native.Nat.{ℕ, zero, suc}
+use lib.ListN.{getD}
 use Rattle.netlist.specs.declared.Source.{Source}
 use Rattle.netlist.specs.declared.Source.the-variants.{Constant, Input, Signal}
 use Rattle.netlist.specs.declared.Gate.{Gate}
 use Rattle.netlist.specs.declared.Gate.the-variants.{Lut, ZeroOf, Select, Xor, Same, Stored}
 use Rattle.netlist.specs.Rule.{sourcesOf, anySource}
 use Rattle.netlist.specs.Settle.{isMarked}
+use Rattle.netlist.specs.Table.{sourceOf}
 
 -- the source is a marked outside input or a marked signal
 abbrev pub sourceReached : List ℕ → List ℕ → Source → Bool
 sourceReached inputs signals (Constant b) = false
 sourceReached inputs signals (Input j) = isMarked inputs j
 sourceReached inputs signals (Signal y) = isMarked signals y
+
+-- one of the k sources from place i of a row of codes is reached, by a test of a source
+unfoldable pub anyReached : (Source → Bool) → List ℕ → ℕ → ℕ → Bool
+anyReached f codes i zero = false
+anyReached f codes i (suc k) = f (sourceOf (getD codes i 0)) || anyReached f codes (suc i) k
 
 -- the gate belongs to the contents of a marked table: "O6 and O5 of that table, signal 19 if it is A", also where it is 0
 abbrev pub tableMarked : List ℕ → Gate → Bool

@@ -1,15 +1,13 @@
 // The walks along an order that settle or edit a value table.
 ghost use mathlib.Core.Path.{_≡_};
 ghost use mathlib.Core.Bool.{_||_};
-ghost use Prim.Native.Nat.{_*_, _≤_};
+ghost use Prim.Native.Nat.{_+_, _*_, _≤_, _<_};
 ghost use lib.ListN.{length};
-ghost use Rattle.netlist.specs.Rule.{env, sourcesOf, readsOf, anySource};
+ghost use Rattle.netlist.specs.Rule.{env, readsOf};
 ghost use Rattle.netlist.specs.Graph.{Ordered};
 ghost use Rattle.netlist.specs.Settle.{readsIn, Settled, isMarked, anyMarked, Edited};
-ghost use Rattle.netlist.specs.Table.{signalLimit, gateOf};
-ghost use Rattle.walks.specs.Marked.{sourceReached, tableMarked, touchesMarked};
-use netlist::Gate;
-use netlist::Source;
+ghost use Rattle.netlist.specs.Table.{signalLimit, sourceOf, gateOf};
+ghost use Rattle.walks.specs.Marked.{sourceReached, anyReached, touchesMarked};
 
 // Fills the value table: each signal in the order's turn is set to its rule.
 pub fn settle_by(
@@ -28,18 +26,10 @@ pub fn settle_by(
     let mut i = 0;
     while i < order.len() {
         let x = order[i] as usize;
-        let gate = gates::load_gate(table, n, x);
-        let value = gates::gate_value(gate, contents, flops, inputs, values);
+        let value = gates::gate_value(table, n, x, contents, flops, inputs, values);
         values[x] = value;
         i += 1;
     }
-}
-
-// Whether one of the two holds.
-fn either(a: bool, b: bool) -> bool
-    ensures { λ r. ⌜ r ≡ (a || b) ⌝ }
-{
-    if a { true } else { b }
 }
 
 // A mark that is set; past the end none is.
@@ -49,89 +39,64 @@ fn is_marked(marks: &[u8], x: usize) -> bool
     if x < marks.len() { 0 < marks[x] } else { false }
 }
 
-// Whether the source is a marked input or a marked signal.
-fn source_reached(source: Source, changed: &[u8], marks: &[u8]) -> bool
-    ensures { λ r. ⌜ r ≡ sourceReached (now (changed .entry)) (now (marks .entry)) source ⌝ }
+// Whether the source of a code is a marked input or a marked signal.
+fn code_reached(code: u16, changed: &[u8], marks: &[u8]) -> bool
+    ensures { λ r. ⌜ r ≡ sourceReached (now (changed .entry)) (now (marks .entry)) (sourceOf code) ⌝ }
 {
-    match source {
-        Source::Constant(_) => false,
-        Source::Input(j) => is_marked(changed, j),
-        Source::Signal(y) => is_marked(marks, y),
+    if code < 256 {
+        return false;
     }
+    if code < 4096 {
+        return is_marked(changed, (code - 256) as usize);
+    }
+    is_marked(marks, (code - 4096) as usize)
 }
 
-// Whether a source that the gate reads is a marked input or a marked signal.
-fn sources_reached(gate: Gate, changed: &[u8], marks: &[u8]) -> bool
-    ensures { λ r. ⌜ r ≡ anySource (sourceReached (now (changed .entry)) (now (marks .entry))) (sourcesOf gate) ⌝ }
+// Whether the source of one of the k codes from place i is.
+fn any_reached(codes: &[u16], i: usize, k: usize, changed: &[u8], marks: &[u8]) -> bool
+    requires { ⌜ i + k ≤ length (now codes) ⌝ }
+    ensures { λ r. ⌜ r ≡ anyReached (sourceReached (now (changed .entry)) (now (marks .entry))) (now (codes .entry)) i k ⌝ }
 {
-    match gate {
-        Gate::Lut {
-            table: _,
-            p1,
-            p2,
-            p3,
-            p4,
-            p5,
-            p6,
-        } => {
-            let a = source_reached(p1, changed, marks);
-            let b = source_reached(p2, changed, marks);
-            let c = source_reached(p3, changed, marks);
-            let d = source_reached(p4, changed, marks);
-            let e = source_reached(p5, changed, marks);
-            let f = source_reached(p6, changed, marks);
-            either(a, either(b, either(c, either(d, either(e, f)))))
-        }
-        Gate::ZeroOf(_) => false,
-        Gate::Select { select, one, zero } => {
-            let a = source_reached(select, changed, marks);
-            let b = source_reached(one, changed, marks);
-            let c = source_reached(zero, changed, marks);
-            either(a, either(b, c))
-        }
-        Gate::Xor(p, q) => {
-            let a = source_reached(p, changed, marks);
-            let b = source_reached(q, changed, marks);
-            either(a, b)
-        }
-        Gate::Same(p) => source_reached(p, changed, marks),
-        Gate::Stored(_) => false,
+    let mut found = false;
+    let mut j = k;
+    while 0 < j {
+        j -= 1;
+        found = code_reached(codes[i + j], changed, marks) | found;
     }
+    found
 }
 
-// Whether the gate belongs to the contents of a marked table.
-fn table_marked(gate: Gate, edited: &[u8]) -> bool
-    ensures { λ r. ⌜ r ≡ tableMarked (now (edited .entry)) gate ⌝ }
+// Whether the change reaches signal x's gate: it touches a marked input or table, or reads a marked signal.
+fn gate_reached(
+    table: &[u16],
+    n: usize,
+    x: usize,
+    changed: &[u8],
+    edited: &[u8],
+    marks: &[u8],
+) -> bool
+    requires { ⌜ (32 * n ≤ signalLimit) × (length (now table) ≡ 224 * n) × (x < 32 * n) ⌝ }
+    ensures { λ r. ⌜ r ≡ (touchesMarked (now (changed .entry)) (now (edited .entry)) (gateOf (now (table .entry)) n x) || anyMarked (now (marks .entry)) (readsOf (gateOf (now (table .entry)) n x))) ⌝ }
 {
-    match gate {
-        Gate::Lut {
-            table,
-            p1: _,
-            p2: _,
-            p3: _,
-            p4: _,
-            p5: _,
-            p6: _,
-        } => is_marked(edited, table),
-        Gate::ZeroOf(table) => is_marked(edited, table),
-        Gate::Select {
-            select: _,
-            one: _,
-            zero: _,
-        } => false,
-        Gate::Xor(_, _) => false,
-        Gate::Same(_) => false,
-        Gate::Stored(_) => false,
+    let at = 7 * x;
+    let head = table[at] as usize;
+    if head < 4 * n {
+        let contents = is_marked(edited, head);
+        return any_reached(table, at + 1, 6, changed, marks) | contents;
     }
-}
-
-// Whether the change reaches the gate: it touches a marked input or table, or reads a marked signal.
-fn gate_reached(gate: Gate, changed: &[u8], edited: &[u8], marks: &[u8]) -> bool
-    ensures { λ r. ⌜ r ≡ (touchesMarked (now (changed .entry)) (now (edited .entry)) gate || anyMarked (now (marks .entry)) (readsOf gate)) ⌝ }
-{
-    let pins = sources_reached(gate, changed, marks);
-    let contents = table_marked(gate, edited);
-    either(pins, contents)
+    if head < 8 * n {
+        return is_marked(edited, head - 4 * n);
+    }
+    if head < 16 * n {
+        return false;
+    }
+    if head == 16 * n {
+        return any_reached(table, at + 1, 3, changed, marks);
+    }
+    if head == 16 * n + 1 {
+        return any_reached(table, at + 1, 2, changed, marks);
+    }
+    code_reached(table[at + 1], changed, marks)
 }
 
 // Recomputes what depends on a change of the marked inputs and tables, and nothing else. The inputs and the contents are those after the change.
@@ -154,9 +119,8 @@ pub fn edit_by(
     let mut i = 0;
     while i < order.len() {
         let x = order[i] as usize;
-        let gate = gates::load_gate(table, n, x);
-        if gate_reached(gate, changed, edited, &marks) {
-            let fresh = gates::gate_value(gate, contents, flops, inputs, values);
+        if gate_reached(table, n, x, changed, edited, &marks) {
+            let fresh = gates::gate_value(table, n, x, contents, flops, inputs, values);
             marks[x] = 1;
             values[x] = fresh;
         } else {

@@ -45,26 +45,23 @@ shared-slice-read-x c = search needs
 cast-x : tie.Need-cast-x Inv-loop μ-loop
 cast-x c = omega (arith, turn (c .before))
 
-load-gate-requires : tie.Need-load-gate-requires Inv-loop μ-loop
-load-gate-requires c κs = omega (arith, turn (c .before))
-
 slice-aggregate-gate-reached : tie.Need-slice-aggregate-gate-reached Inv-loop μ-loop
 slice-aggregate-gate-reached c = search needs
 
 gate-reached-requires : tie.Need-gate-reached-requires Inv-loop μ-loop
-gate-reached-requires c κs = search needs
+gate-reached-requires c κs = omega (arith, turn (c .before .before))
 
 gate-value-requires : tie.Need-gate-value-requires Inv-loop μ-loop
-gate-value-requires c κs = search needs
+gate-value-requires c κs = omega (arith, turn (c .before .before .before .before .before))
 
 array-write-marks : tie.Need-array-write-marks Inv-loop μ-loop
-array-write-marks c = omega (arith, turn (c .before .before .before .before .before .before .before))
+array-write-marks c = omega (arith, turn (c .before .before .before .before .before .before))
 
 slice-write-values : tie.Need-slice-write-values Inv-loop μ-loop
-slice-write-values c = omega (arith, turn (c .before .before .before .before .before .before .before))
+slice-write-values c = omega (arith, turn (c .before .before .before .before .before .before))
 
 array-write-marks-2 : tie.Need-array-write-marks-2 Inv-loop μ-loop
-array-write-marks-2 c = omega (arith, turn (c .before .before .before .before .before))
+array-write-marks-2 c = omega (arith, turn (c .before .before .before .before))
 
 add-i : tie.Need-add-i Inv-loop μ-loop
 add-i c = search needs
@@ -74,25 +71,24 @@ loop-less c = search needs
 
 loop-again : tie.Need-loop-again Inv-loop μ-loop
 loop-again c =
-    let k : tie.In-loop Inv-loop μ-loop = c .before .before .before .before .before in
+    let k : tie.In-loop Inv-loop μ-loop = c .before .before .before .before in
     let l = k .before .loop in
     let o = start k .pre .1 in
     let r = c .before .gate-reached .ensures in
-    let e = c .before .before .before .load-gate .ensures in
     ⊎-elim
     (λ w. (
       search needs,
       rw (w .3) (simp length-set (l .inv .1)),
       rw (w .4) (simp length-set (l .inv .2)),
-      rw (w .3, w .4, w .2 .ensures, e)
-          (edit-reached _ o _ _ _ (l .i) (turn k .0) (l .marks) (l .values) (l .inv .3) (omega arith) (omega arith) (rw (← e) (sym r ∙ w .0 .taken))),
+      rw (w .3, w .4, w .2 .ensures)
+          (edit-reached _ o _ _ _ (l .i) (turn k .0) (l .marks) (l .values) (l .inv .3) (omega arith) (omega arith) (sym r ∙ w .0 .taken)),
     ))
     (λ w. (
       search needs,
       rw (w .1) (l .inv .1),
       rw (w .2) (simp length-set (l .inv .2)),
       rw (w .1, w .2)
-          (edit-passed _ o _ _ _ (l .i) (turn k .0) (l .marks) (l .values) (l .inv .3) (omega arith) (omega arith) (rw (← e) (sym r ∙ w .0 .left))),
+          (edit-passed _ o _ _ _ (l .i) (turn k .0) (l .marks) (l .values) (l .inv .3) (omega arith) (omega arith) (sym r ∙ w .0 .left)),
     ))
     (c .if1 .came)
 
@@ -115,7 +111,6 @@ edit-by-spec =
     mul-x
     shared-slice-read-x
     cast-x
-    load-gate-requires
     slice-aggregate-gate-reached
     gate-reached-requires
     gate-value-requires

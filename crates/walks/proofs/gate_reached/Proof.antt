@@ -1,22 +1,153 @@
--- `walks::gate_reached` meets its contract. Assumes nothing.
+-- `walks::gate_reached` meets its contract, test by test of the head. Assumes nothing.
 use mathlib.Core.Path.{_∙_}
-use Rattle.walks.proofs.Reached.{or-next, reached-by-sources}
+use Prim.Native.Nat.{_*_}
+use native.Mathlib.Omega.{arith}
+use Rattle.walks.proofs.Reached.{or-both}
+use Rattle.walks.proofs.Rows.{reached-lut, reached-zero, reached-stored, reached-select, reached-xor, reached-same}
 use borrow.Author.Needs.{needs}
 use Rattle.walks.proofs.gate_reached.Statement.{statement}
 use Rattle.walks.proofs.gate_reached.Tie as tie
 
-sources-reached-requires : tie.Need-sources-reached-requires
-sources-reached-requires c κs = search needs
+abbrev start : tie.After-shared-slice-known5 → tie.Start
+start c = c .before .before .before .before .before
 
-table-marked-requires : tie.Need-table-marked-requires
-table-marked-requires c κs = search needs
+mul-at : tie.Need-mul-at
+mul-at c = search needs
 
-either-requires : tie.Need-either-requires
-either-requires c κs = search needs
+mul-head : tie.Need-mul-head
+mul-head c = search needs
+
+shared-slice-read-head : tie.Need-shared-slice-read-head
+shared-slice-read-head c = search needs
+
+cast-head : tie.Need-cast-head
+cast-head c = omega (arith, c .shared-slice-known5 .given (7 * start c .args .x))
+
+mul-if1 : tie.Need-mul-if1
+mul-if1 c = search needs
+
+is-marked-requires : tie.Need-is-marked-requires
+is-marked-requires c κs = search needs
+
+add-any-reached : tie.Need-add-any-reached
+add-any-reached c = search needs
+
+any-reached-requires : tie.Need-any-reached-requires
+any-reached-requires c κs = search needs
 
 returns : tie.Need-returns
-returns c = or-next (c .either .ensures) (c .before .before .sources-reached .ensures) (c .before .table-marked .ensures) ∙ reached-by-sources _ _ _ _
+returns c =
+    let a = start (c .before .before .before) .args in
+    or-both (c .any-reached .ensures) (c .before .is-marked .ensures) ∙ reached-lut (a .changed .now) (a .edited .now) (a .marks .now) (a .table .now) (a .n) (a .x) (c .before .before .if1 .taken)
+
+mul-if2 : tie.Need-mul-if2
+mul-if2 c = search needs
+
+mul-is-marked : tie.Need-mul-is-marked
+mul-is-marked c = search needs
+
+sub-is-marked : tie.Need-sub-is-marked
+sub-is-marked c = search needs
+
+is-marked-requires-2 : tie.Need-is-marked-requires-2
+is-marked-requires-2 c κs = search needs
+
+returns-2 : tie.Need-returns-2
+returns-2 c =
+    let a = start (c .before .before .before) .args in
+    c .is-marked2 .ensures ∙ reached-zero (a .changed .now) (a .edited .now) (a .marks .now) (a .table .now) (a .n) (a .x) (c .before .before .if1 .left) (c .before .if2 .taken)
+
+mul-if3 : tie.Need-mul-if3
+mul-if3 c = search needs
+
+returns-3 : tie.Need-returns-3
+returns-3 c =
+    let a = start (c .before .before .before) .args in
+    reached-stored (a .changed .now) (a .edited .now) (a .marks .now) (a .table .now) (a .n) (a .x) (c .before .before .if1 .left) (c .before .if2 .left) (c .if3 .taken)
+
+mul-if4 : tie.Need-mul-if4
+mul-if4 c = search needs
+
+add-any-reached-2 : tie.Need-add-any-reached-2
+add-any-reached-2 c = search needs
+
+any-reached-requires-2 : tie.Need-any-reached-requires-2
+any-reached-requires-2 c κs = search needs
+
+returns-4 : tie.Need-returns-4
+returns-4 c =
+    let e = c .before .before in
+    let a = start (e .before .before .before) .args in
+    c .any-reached2 .ensures ∙ reached-select (a .changed .now) (a .edited .now) (a .marks .now) (a .table .now) (a .n) (a .x) (e .before .before .if1 .left) (e .before .if2 .left) (e .if3 .left) (c .before .if4 .taken)
+
+mul-if5 : tie.Need-mul-if5
+mul-if5 c = search needs
+
+add-if5 : tie.Need-add-if5
+add-if5 c = search needs
+
+add-any-reached-3 : tie.Need-add-any-reached-3
+add-any-reached-3 c = search needs
+
+any-reached-requires-3 : tie.Need-any-reached-requires-3
+any-reached-requires-3 c κs = search needs
+
+returns-5 : tie.Need-returns-5
+returns-5 c =
+    let e = c .before .before .before in
+    let a = start (e .before .before .before) .args in
+    c .any-reached3 .ensures ∙ reached-xor (a .changed .now) (a .edited .now) (a .marks .now) (a .table .now) (a .n) (a .x) (e .before .before .if1 .left) (e .before .if2 .left) (e .if3 .left) (c .before .before .if4 .left) (c .before .if5 .taken)
+
+add-code-reached : tie.Need-add-code-reached
+add-code-reached c = search needs
+
+mul-code-reached : tie.Need-mul-code-reached
+mul-code-reached c = search needs
+
+shared-slice-read-code-reached : tie.Need-shared-slice-read-code-reached
+shared-slice-read-code-reached c = search needs
+
+code-reached-requires : tie.Need-code-reached-requires
+code-reached-requires c κs = search needs
+
+returns-6 : tie.Need-returns-6
+returns-6 c =
+    let f = c .before .before in
+    let e = f .before .before in
+    let a = start (e .before .before .before) .args in
+    c .code-reached .ensures ∙ reached-same (a .changed .now) (a .edited .now) (a .marks .now) (a .table .now) (a .n) (a .x) (e .before .before .if1 .left) (e .before .if2 .left) (e .if3 .left) (f .before .if4 .left) (f .if5 .left)
 
 pub gate-reached-spec : {M : Type 1} → statement M
 gate-reached-spec =
-    tie.close (tie.spec sources-reached-requires table-marked-requires either-requires returns)
+    tie.close
+    (tie.spec
+    mul-at
+    mul-head
+    shared-slice-read-head
+    cast-head
+    mul-if1
+    is-marked-requires
+    add-any-reached
+    any-reached-requires
+    returns
+    mul-if2
+    mul-is-marked
+    sub-is-marked
+    is-marked-requires-2
+    returns-2
+    mul-if3
+    returns-3
+    mul-if4
+    add-any-reached-2
+    any-reached-requires-2
+    returns-4
+    mul-if5
+    add-if5
+    add-any-reached-3
+    any-reached-requires-3
+    returns-5
+    add-code-reached
+    mul-code-reached
+    shared-slice-read-code-reached
+    code-reached-requires
+    returns-6)

@@ -40,14 +40,11 @@ shared-slice-read-x c = search needs
 cast-x : tie.Need-cast-x Inv-loop μ-loop
 cast-x c = omega (arith, turn (c .before))
 
-load-gate-requires : tie.Need-load-gate-requires Inv-loop μ-loop
-load-gate-requires c κs = omega (arith, turn (c .before))
-
 gate-value-requires : tie.Need-gate-value-requires Inv-loop μ-loop
-gate-value-requires c κs = search needs
+gate-value-requires c κs = omega (arith, turn (c .before .before))
 
 slice-write-values : tie.Need-slice-write-values Inv-loop μ-loop
-slice-write-values c = omega (arith, turn (c .before .before .before .before))
+slice-write-values c = omega (arith, turn (c .before .before .before))
 
 add-i : tie.Need-add-i Inv-loop μ-loop
 add-i c = search needs
@@ -57,11 +54,11 @@ loop-less c = search needs
 
 loop-again : tie.Need-loop-again Inv-loop μ-loop
 loop-again c =
-    let l = c .before .before .before .before .before .loop in (
+    let k : tie.In-loop Inv-loop μ-loop = c .before .before .before in
+    let l = k .before .loop in (
       search needs,
       simp length-set (l .inv .1),
-      rw (c .gate-value .ensures, c .before .before .load-gate .ensures)
-          (settle-next _ (start (c .before .before .before .before) .pre .1) _ (l .i) (turn (c .before .before .before .before) .0) (l .values) (omega arith) (l .inv .2)),
+      rw (c .gate-value .ensures) (settle-next _ (start k .pre .1) _ (l .i) (turn k .0) (l .values) (omega arith) (l .inv .2)),
     )
 
 same-length : tie.Need-same-length Inv-loop μ-loop
@@ -83,7 +80,6 @@ settle-by-spec =
     mul-x
     shared-slice-read-x
     cast-x
-    load-gate-requires
     gate-value-requires
     slice-write-values
     add-i

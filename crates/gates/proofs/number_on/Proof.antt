@@ -1,4 +1,4 @@
--- `moves::number_on` meets its contract. The loop goes from the highest source down: its number is that on the sources from place j. The measure is j.
+-- `gates::number_on` meets its contract. The loop goes from the highest source down: its number is that on the sources from place j. The measure is j.
 -- Assumes nothing.
 use mathlib.Core.Path.{_≡_}
 use Prim.Native.Nat.{_+_, _-_, _^_, _≤_, _<_}
@@ -8,17 +8,17 @@ use borrow.Author.Needs.{needs}
 use lib.Dec.{lit<}
 use lib.Pow.{pow-mono}
 use Rattle.netlist.specs.Rule.{valueOf}
-use Rattle.moves.specs.Moves.{numberOn}
-use Rattle.moves.proofs.Bits.{number-more, small-more}
-use Rattle.moves.proofs.number_on.Statement.{statement}
-use Rattle.moves.proofs.number_on.Tie as tie
+use Rattle.gates.specs.Codes.{numberOn}
+use Rattle.gates.proofs.Numbers.{number-more, small-more}
+use Rattle.gates.proofs.number_on.Statement.{statement}
+use Rattle.gates.proofs.number_on.Tie as tie
 
 abbrev Inv-loop : tie.InvT-loop
-Inv-loop edge i k inputs values number₀ j₀ number j =
-    (j ≤ k) × (number ≡ numberOn (valueOf inputs values) edge (i + j) (k - j)) × (number < 2 ^ (k - j))
+Inv-loop codes i k inputs values number₀ j₀ number j =
+    (j ≤ k) × (number ≡ numberOn (valueOf inputs values) codes (i + j) (k - j)) × (number < 2 ^ (k - j))
 
 abbrev μ-loop : tie.MeasureT-loop
-μ-loop edge i k inputs values number₀ j₀ number j = j
+μ-loop codes i k inputs values number₀ j₀ number j = j
 
 loop-holds : tie.Need-loop-holds Inv-loop μ-loop
 unfolding numberOn
@@ -62,8 +62,8 @@ loop-again c =
     let v = valueOf (a .inputs .now) (a .values .now) in
     let more : 0 < l .j = omega arith in (
       omega arith,
-      rw (number-more v (a .edge .now) (a .i) (l .j) (a .k) more (l .inv .0), c .code-value .ensures .0, l .inv .1),
-      small-more v (a .edge .now) (a .i) (l .j) (a .k) more (l .inv .0) (l .inv .2) (c .code-value .ensures .1),
+      rw (number-more v (a .codes .now) (a .i) (l .j) (a .k) more (l .inv .0), c .code-value .ensures .0, l .inv .1),
+      small-more v (a .codes .now) (a .i) (l .j) (a .k) more (l .inv .0) (l .inv .2) (c .code-value .ensures .1),
     )
 
 returns : tie.Need-returns Inv-loop μ-loop

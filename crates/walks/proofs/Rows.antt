@@ -1,0 +1,77 @@
+-- Whether a change reaches a signal's gate, by the head of its row in the gate table. Assumes nothing.
+use mathlib.Core.Path.{_≡_, _∙_}
+use mathlib.Core.Bool.{Bool, false, _||_, or-false}
+use mathlib.Core.List.{List}
+use Prim.Native.Nat.{ℕ, suc, _+_, _-_, _*_, _≤_, _<_}
+use native.Mathlib.Omega.{arith}
+use borrow.Author.Tests.{lt-ltb, le-ltb, eq-eqb, ne-eqb}
+use lib.ListN.{getD}
+use Rattle.netlist.specs.Rule.{sourcesOf, readsOf, anySource}
+use Rattle.netlist.specs.Settle.{isMarked, anyMarked}
+use Rattle.netlist.specs.Table.{sourceOf, gateWith, gateOf}
+use Rattle.netlist.specs.declared.Source.{Source}
+use Rattle.walks.specs.Marked.{sourceReached, anyReached, tableMarked, touchesMarked}
+use Rattle.walks.proofs.Reached.{reached-by-sources}
+
+-- one more code, before those that are looked at
+pub any-more : (f : Source → Bool) (codes : List ℕ) (i j k : ℕ) → 0 < j → j ≤ k
+    → anyReached f codes (i + (j - 1)) (k - (j - 1)) ≡ (f (sourceOf (getD codes (i + (j - 1)) 0)) || anyReached f codes (i + j) (k - j))
+unfolding anyReached
+any-more f codes i j k more fits =
+    let one : k - (j - 1) ≡ suc (k - j) = omega arith in
+    let place : suc (i + (j - 1)) ≡ i + j = omega arith in
+    rw (one, place)
+
+module _ (changed edited marks table : List ℕ) (n x : ℕ) where
+  abbrev head : ℕ
+  head = getD table (7 * x) 0
+
+  abbrev reached : Bool
+  reached = touchesMarked changed edited (gateOf table n x) || anyMarked marks (readsOf (gateOf table n x))
+
+  -- the same, by the gate's sources and its table
+  abbrev tested : Bool
+  tested = anySource (sourceReached changed marks) (sourcesOf (gateOf table n x)) || tableMarked edited (gateOf table n x)
+
+  so : {b : Bool} → b ≡ tested → b ≡ reached
+  so e = e ∙ reached-by-sources changed edited marks (gateOf table n x)
+
+  -- one of the first k sources of the row is reached
+  abbrev first : ℕ → Bool
+  first k = anyReached (sourceReached changed marks) table (7 * x + 1) k
+
+  p2 : suc (7 * x + 1) ≡ 7 * x + 2
+  p2 = omega arith
+
+  p3 : suc (7 * x + 2) ≡ 7 * x + 3
+  p3 = omega arith
+
+  pub reached-lut : head < 4 * n → (first 6 || isMarked edited head) ≡ reached
+  unfolding sourcesOf gateWith gateOf anyReached
+  reached-lut h =
+      let p4 : suc (7 * x + 3) ≡ 7 * x + 4 = omega arith in
+      let p5 : suc (7 * x + 4) ≡ 7 * x + 5 = omega arith in
+      let p6 : suc (7 * x + 5) ≡ 7 * x + 6 = omega arith in
+      so (simp (lt-ltb _ _ h, p2, p3, p4, p5, p6))
+
+  pub reached-zero : 4 * n ≤ head → head < 8 * n → isMarked edited (head - 4 * n) ≡ reached
+  unfolding sourcesOf gateWith gateOf
+  reached-zero a h = so (simp (le-ltb _ _ a, lt-ltb _ _ h))
+
+  module _ (a : 4 * n ≤ head) (b : 8 * n ≤ head) where
+    pub reached-stored : head < 16 * n → false ≡ reached
+    unfolding sourcesOf gateWith gateOf
+    reached-stored h = so (simp (le-ltb _ _ a, le-ltb _ _ b, lt-ltb _ _ h))
+
+    module _ (c : 16 * n ≤ head) where
+      pub reached-select : head ≡ 16 * n → first 3 ≡ reached
+      unfolding sourcesOf gateWith gateOf anyReached
+      reached-select h = so (simp (le-ltb _ _ a, le-ltb _ _ b, le-ltb _ _ c, eq-eqb _ _ h, p2, p3, or-false))
+
+      pub reached-xor : (head ≡ 16 * n → ⊥) → head ≡ 16 * n + 1 → first 2 ≡ reached
+      unfolding sourcesOf gateWith gateOf anyReached
+      reached-xor d h = so (simp (le-ltb _ _ a, le-ltb _ _ b, le-ltb _ _ c, ne-eqb _ _ d, eq-eqb _ _ h, p2, or-false))
+
+      pub reached-same : (head ≡ 16 * n → ⊥) → (head ≡ 16 * n + 1 → ⊥) → sourceReached changed marks (sourceOf (getD table (7 * x + 1) 0)) ≡ reached
+      unfolding sourcesOf gateWith gateOf
+      reached-same d h = so (simp (le-ltb _ _ a, le-ltb _ _ b, le-ltb _ _ c, ne-eqb _ _ d, ne-eqb _ _ h, or-false))
