@@ -9,12 +9,31 @@ pub struct Lent<T> {
     guard: T,
 }
 
+impl Lent<u8> {
+    pub fn bytes(inside: &[u8]) -> Lent<u8> {
+        Lent::new(inside, 0xA5)
+    }
+}
+
+impl Lent<u64> {
+    pub fn words(inside: &[u64]) -> Lent<u64> {
+        Lent::new(inside, 0xA5A5_A5A5_A5A5_A5A5)
+    }
+}
+
 impl<T: Copy + PartialEq> Lent<T> {
-    pub fn new(inside: &[T], guard: T) -> Lent<T> {
+    fn new(inside: &[T], guard: T) -> Lent<T> {
         let mut cells = vec![guard; GUARDS];
         cells.extend(inside);
         cells.extend(vec![guard; GUARDS]);
         Lent { cells, guard }
+    }
+
+    /// A copy of another length, cut or filled up.
+    pub fn resized(&self, length: usize, fill: T) -> Lent<T> {
+        let mut inside = self.get().to_vec();
+        inside.resize(length, fill);
+        Lent::new(&inside, self.guard)
     }
 
     /// Whether the guards stand.
@@ -33,5 +52,10 @@ impl<T: Copy + PartialEq> Lent<T> {
     pub fn lend(&mut self) -> &mut [T] {
         let end = self.cells.len() - GUARDS;
         &mut self.cells[GUARDS..end]
+    }
+
+    /// The middle and the guards, for a host that writes where it may not.
+    pub fn all_cells(&mut self) -> &mut [T] {
+        &mut self.cells
     }
 }

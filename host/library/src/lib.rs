@@ -1,7 +1,7 @@
 //! The exported library, behind functions that are safe to call: slices in, an answer out.
 
-pub mod bench;
 pub mod lent;
+pub mod workbench;
 
 mod exported {
     extern "C" {

@@ -1,13 +1,14 @@
 //! The paper's worked cases through the exported library, with what they have to give, written by hand.
 
-use library::bench::Bench;
+use library::workbench::Workbench;
 use library::{judge, Accepted, Refused};
 use model::layout::*;
 use program::cases::{long_files, sizes, truncations, worked, worked_file};
 use program::column::Column;
+use program::traps;
 
 /// The signals that are 1, of values that are all 0 or 1.
-fn ones(bench: &Bench) -> Vec<usize> {
+fn ones(bench: &Workbench) -> Vec<usize> {
     let values = bench.values.get();
     assert!(
         values.iter().all(|&byte| byte < 2),
@@ -17,7 +18,7 @@ fn ones(bench: &Bench) -> Vec<usize> {
 }
 
 /// The same, its values filled with junk and settled again.
-fn settled_afresh(bench: &Bench) -> Bench {
+fn settled_afresh(bench: &Workbench) -> Workbench {
     let mut afresh = bench.clone();
     afresh.values.lend().fill(7);
     assert_eq!(afresh.settle(), Ok(()));
@@ -32,7 +33,7 @@ fn passes_input() -> Vec<u8> {
 
 #[test]
 fn judges_each_case() {
-    let cases = [worked(), truncations(), sizes(), long_files()];
+    let cases = [worked(), truncations(), sizes(), long_files(), traps::all()];
     for case in cases.into_iter().flatten() {
         let line = match judge(&case.file) {
             Ok(Accepted { n, m }) => format!("accepted {n} {m}"),
@@ -47,14 +48,14 @@ fn cases_1_to_4_settle() {
     let most: Vec<usize> = (0..=11).chain(16..=18).chain(20..=23).collect();
     let expected = [vec![], vec![0, 4, 12, 20], vec![12], most];
     for (i, expected) in expected.into_iter().enumerate() {
-        let bench = Bench::settled(worked_file(i + 1), &[]);
+        let bench = Workbench::settled(worked_file(i + 1), &[]);
         assert_eq!(ones(&bench), expected, "case {}", i + 1);
     }
 }
 
 #[test]
 fn case_9_d_shifts() {
-    let mut bench = Bench::up(worked_file(9));
+    let mut bench = Workbench::up(worked_file(9));
     assert_eq!(bench.contents.get(), [0; 4]);
     assert_eq!(bench.clock(), Ok(()));
     assert_eq!(bench.contents.get(), [0, 0, 0, 1]);
@@ -69,14 +70,14 @@ fn case_9_d_shifts() {
 
 #[test]
 fn case_10_d_is_memory() {
-    let mut bench = Bench::up(worked_file(10));
+    let mut bench = Workbench::up(worked_file(10));
     assert_eq!(bench.clock(), Ok(()));
     assert_eq!(bench.contents.get(), [0, 0, 0, 9_223_372_036_854_775_808]);
 }
 
 #[test]
 fn case_11_set_reset_over_enable() {
-    let mut bench = Bench::up(worked_file(11));
+    let mut bench = Workbench::up(worked_file(11));
     assert_eq!(bench.flops.get(), [0]);
     assert_eq!(bench.clock(), Ok(()));
     assert_eq!(bench.flops.get(), [1]);
@@ -88,7 +89,7 @@ fn case_11_set_reset_over_enable() {
 fn power_up_takes_contents_and_bits() {
     let column = Column::zeros(2, 0).contents(1, C, 0x0123_4567_89AB_CDEF);
     let column = column.set(0, POWER_UP, 0xC3).set(1, POWER_UP, 0x18);
-    let bench = Bench::up(column.bytes());
+    let bench = Workbench::up(column.bytes());
     assert_eq!(
         bench.contents.get(),
         [0, 0, 0, 0, 0, 0, 0x0123_4567_89AB_CDEF, 0]
@@ -98,7 +99,7 @@ fn power_up_takes_contents_and_bits() {
 
 #[test]
 fn edited_input_is_as_settled_afresh() {
-    let mut bench = Bench::settled(passes_input(), &[0]);
+    let mut bench = Workbench::settled(passes_input(), &[0]);
     assert_eq!(ones(&bench), []);
     assert_eq!(bench.edit_input(0, 1), Ok(()));
     assert_eq!(ones(&bench), [0, 4, 12, 20]);
@@ -107,7 +108,7 @@ fn edited_input_is_as_settled_afresh() {
 
 #[test]
 fn edited_table_is_as_settled_afresh() {
-    let mut bench = Bench::settled(worked_file(1), &[]);
+    let mut bench = Workbench::settled(worked_file(1), &[]);
     assert_eq!(bench.edit_table(A, 1), Ok(()));
     assert_eq!(bench.contents.get(), [1, 0, 0, 0]);
     assert_eq!(ones(&bench), [0, 4, 12, 20]);
@@ -117,7 +118,7 @@ fn edited_table_is_as_settled_afresh() {
 /// From a stale table, an edit recomputes what depends on the change and leaves the rest, also where a byte comes out equal.
 #[test]
 fn edit_of_a_stale_table() {
-    let mut bench = Bench::settled(passes_input(), &[1]);
+    let mut bench = Workbench::settled(passes_input(), &[1]);
     bench.values.lend().fill(1);
     bench.values.lend()[0] = 0;
     bench.values.lend()[20] = 0;

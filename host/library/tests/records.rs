@@ -28,14 +28,14 @@ fn refused(number: u8) -> Result<(), Refused> {
 
 #[test]
 fn reads_the_body() {
-    let mut lent = Lent::new(&[7; SLICE_BODY], 0xA5);
+    let mut lent = Lent::bytes(&[7; SLICE_BODY]);
     assert_eq!(read_record(&record(), 4, 1, lent.lend()), Ok(()));
     assert_eq!(lent.get(), body());
 }
 
 #[test]
 fn writes_the_record_and_leaves_the_rest() {
-    let mut lent = Lent::new(&[7; SLICE_RECORD + 5], 0xA5);
+    let mut lent = Lent::bytes(&[7; SLICE_RECORD + 5]);
     assert_eq!(write_record(&body(), 4, 1, lent.lend()), Ok(()));
     assert_eq!(lent.get(), [&record()[..], &[7; 5]].concat());
 }
@@ -44,21 +44,21 @@ fn writes_the_record_and_leaves_the_rest() {
 fn the_record_in_z() {
     let file = z().bytes();
     let record = &file[record_start(0)..record_start(1)];
-    let mut lent = Lent::new(&[7; SLICE_BODY], 0xA5);
+    let mut lent = Lent::bytes(&[7; SLICE_BODY]);
     assert_eq!(read_record(record, 1, 0, lent.lend()), Ok(()));
-    let mut part = Lent::new(&[7; SLICE_RECORD], 0xA5);
+    let mut part = Lent::bytes(&[7; SLICE_RECORD]);
     assert_eq!(write_record(lent.get(), 1, 0, part.lend()), Ok(()));
     assert_eq!(part.get(), record);
 }
 
 /// The record refused by the reader, for n and m; and by the writer for its body, where the header is right.
 fn refuse(record: &[u8], n: usize, m: usize, number: u8) {
-    let before = Lent::new(&[7; SLICE_BODY], 0xA5);
+    let before = Lent::bytes(&[7; SLICE_BODY]);
     let mut lent = before.clone();
     assert_eq!(read_record(record, n, m, lent.lend()), refused(number));
     assert_eq!(lent, before, "a refused reader wrote");
     if record.starts_with(&HEAD) && record.len() == SLICE_RECORD {
-        let before = Lent::new(&[7; SLICE_RECORD], 0xA5);
+        let before = Lent::bytes(&[7; SLICE_RECORD]);
         let mut part = before.clone();
         let answer = write_record(&record[HEADER..], n, m, part.lend());
         assert_eq!(answer, refused(number));
@@ -87,14 +87,43 @@ fn refusals_of_a_record() {
     refuse(&record(), 4, 0, 7);
 }
 
+/// A record in which everything is wrong; one thing after the other is mended, and the next refusal shows.
+#[test]
+fn order_of_refusals() {
+    let mut record = record();
+    let mends: [(usize, u8, u8, u8); 7] = [
+        // Where, what is wrong there, what is right, and what is refused while it is wrong.
+        (0, 9, 3, 2),
+        (0, 3, 2, 4),
+        (1, 123, 124, 3),
+        (HEADER + NUMBER, 4, 3, 4),
+        (HEADER + MAIN + C, 6, 5, 5),
+        (HEADER + MODE + A, 1, 0, 6),
+        (HEADER + PINS, 2, 1, 7),
+    ];
+    for (at, wrong, _, _) in mends.into_iter().rev() {
+        record[at] = wrong;
+    }
+    refuse(&[&record[..], &[0]].concat(), 0, 1, 10);
+    refuse(&record, 0, 1, 11);
+    refuse(&record, 4, 65, 11);
+    for (at, _, right, number) in mends {
+        refuse(&record, 4, 1, number);
+        record[at] = right;
+    }
+    let mut lent = Lent::bytes(&[7; SLICE_BODY]);
+    assert_eq!(read_record(&record, 4, 1, lent.lend()), Ok(()));
+    assert_eq!(lent.get(), &record[HEADER..]);
+}
+
 #[test]
 fn lengths_first() {
     for length in [0, 123, 125] {
-        let before = Lent::new(&vec![7; length], 0xA5);
+        let before = Lent::bytes(&vec![7; length]);
         let mut lent = before.clone();
         assert_eq!(read_record(&[], 0, 65, lent.lend()), refused(10));
         assert_eq!(lent, before);
-        let before = Lent::new(&[7; SLICE_RECORD], 0xA5);
+        let before = Lent::bytes(&[7; SLICE_RECORD]);
         let mut part = before.clone();
         assert_eq!(
             write_record(&vec![0; length], 0, 65, part.lend()),
@@ -102,7 +131,7 @@ fn lengths_first() {
         );
         assert_eq!(part, before);
     }
-    let before = Lent::new(&[7; SLICE_RECORD - 1], 0xA5);
+    let before = Lent::bytes(&[7; SLICE_RECORD - 1]);
     let mut part = before.clone();
     assert_eq!(write_record(&body(), 0, 65, part.lend()), refused(10));
     assert_eq!(part, before);

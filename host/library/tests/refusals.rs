@@ -1,22 +1,22 @@
 //! A refused call writes nothing: every buffer and the guards around it are as before.
 
-use library::bench::Bench;
 use library::lent::Lent;
+use library::workbench::Workbench;
 use library::{Answer, Refused};
 use model::layout::*;
 use program::column::{z, z_slicem, Column};
 
-type Call = fn(&mut Bench) -> Answer;
+type Call = fn(&mut Workbench) -> Answer;
 
-const POWER_UP_CALL: (&str, Call) = ("power up", Bench::power_up);
-const SETTLE: (&str, Call) = ("settle", Bench::settle);
-const CLOCK: (&str, Call) = ("clock", Bench::clock);
+const POWER_UP_CALL: (&str, Call) = ("power up", Workbench::power_up);
+const SETTLE: (&str, Call) = ("settle", Workbench::settle);
+const CLOCK: (&str, Call) = ("clock", Workbench::clock);
 const EDIT_INPUT: (&str, Call) = ("edit input", |bench| bench.edit_input(0, 1));
 const EDIT_TABLE: (&str, Call) = ("edit table", |bench| bench.edit_table(0, 1));
 const ALL: [(&str, Call); 5] = [POWER_UP_CALL, SETTLE, CLOCK, EDIT_INPUT, EDIT_TABLE];
 
 /// The calls refuse with the number and the place, and write nothing.
-fn refuse(calls: &[(&str, Call)], bench: &Bench, number: u8, place: u64, why: &str) {
+fn refuse(calls: &[(&str, Call)], bench: &Workbench, number: u8, place: u64, why: &str) {
     for (name, call) in calls {
         let mut lent = bench.clone();
         assert_eq!(
@@ -29,31 +29,31 @@ fn refuse(calls: &[(&str, Call)], bench: &Bench, number: u8, place: u64, why: &s
 }
 
 /// A SLICEM with D in shift mode and one outside input, settled.
-fn shifting() -> Bench {
+fn shifting() -> Workbench {
     let column = Column::zeros(1, 1).set(0, KIND, 1).set(0, MODE + D, 2);
-    Bench::settled(column.bytes(), &[0])
+    Workbench::settled(column.bytes(), &[0])
 }
 
 #[test]
 fn a_refused_file() {
-    let mut bench = Bench::of(z().bytes());
-    bench.file.push(0);
+    let mut bench = Workbench::of(z().bytes());
+    bench.file = Lent::bytes(&[z().bytes(), vec![0]].concat());
     refuse(&ALL, &bench, 8, 135, "a byte more");
-    bench.file.clear();
+    bench.file = Lent::bytes(&[]);
     refuse(&ALL, &bench, 1, 0, "no byte");
-    let looped = Bench::of(z().pin(0, "A1", 4100).bytes());
+    let looped = Workbench::of(z().pin(0, "A1", 4100).bytes());
     refuse(&ALL, &looped, 9, 4, "a loop");
-    let missing = Bench::of(z_slicem().pin(0, "WE", 2).bytes());
+    let missing = Workbench::of(z_slicem().pin(0, "WE", 2).bytes());
     refuse(&ALL, &missing, 7, 5, "no such driver");
-    let last = Bench::of(Column::zeros(64, 0).set(63, KIND, 2).bytes());
+    let last = Workbench::of(Column::zeros(64, 0).set(63, KIND, 2).bytes());
     refuse(&ALL, &last, 5, 8006, "a choice of the last slice");
 }
 
 #[test]
 fn a_refused_file_before_the_buffers() {
-    let mut looped = Bench::of(z().pin(0, "A1", 4096).bytes());
-    looped.values = Lent::new(&[], 0xA5);
-    looped.inputs = Lent::new(&[2], 0xA5);
+    let mut looped = Workbench::of(z().pin(0, "A1", 4096).bytes());
+    looped.values = Lent::bytes(&[]);
+    looped.inputs = Lent::bytes(&[2]);
     refuse(&ALL, &looped, 9, 0, "a loop and bad buffers");
 }
 
@@ -61,10 +61,10 @@ fn a_refused_file_before_the_buffers() {
 fn a_length_off_by_one() {
     let good = shifting();
     for length in [3, 5] {
-        let contents = Lent::new(&vec![0; length], u64::MAX);
+        let contents = Lent::words(&vec![0; length]);
         refuse(
             &ALL,
-            &Bench {
+            &Workbench {
                 contents,
                 ..good.clone()
             },
@@ -74,10 +74,10 @@ fn a_length_off_by_one() {
         );
     }
     for length in [0, 2] {
-        let other = Lent::new(&vec![0; length], 0xA5);
+        let other = Lent::bytes(&vec![0; length]);
         refuse(
             &ALL,
-            &Bench {
+            &Workbench {
                 flops: other.clone(),
                 ..good.clone()
             },
@@ -87,7 +87,7 @@ fn a_length_off_by_one() {
         );
         refuse(
             &ALL[1..],
-            &Bench {
+            &Workbench {
                 inputs: other,
                 ..good.clone()
             },
@@ -97,10 +97,10 @@ fn a_length_off_by_one() {
         );
     }
     for length in [31, 33] {
-        let values = Lent::new(&vec![0; length], 0xA5);
+        let values = Lent::bytes(&vec![0; length]);
         refuse(
             &ALL[1..],
-            &Bench {
+            &Workbench {
                 values,
                 ..good.clone()
             },
@@ -114,10 +114,10 @@ fn a_length_off_by_one() {
 #[test]
 fn a_byte_or_word_out_of_range() {
     let good = shifting();
-    let inputs = Lent::new(&[2], 0xA5);
+    let inputs = Lent::bytes(&[2]);
     refuse(
         &ALL[1..],
-        &Bench {
+        &Workbench {
             inputs,
             ..good.clone()
         },
@@ -125,10 +125,10 @@ fn a_byte_or_word_out_of_range() {
         0,
         "an input byte 2",
     );
-    let contents = Lent::new(&[0, 0, 0, 1 << 32], u64::MAX);
+    let contents = Lent::words(&[0, 0, 0, 1 << 32]);
     refuse(
         &ALL[1..],
-        &Bench {
+        &Workbench {
             contents,
             ..good.clone()
         },

@@ -1,27 +1,34 @@
 //! Refusals 1 to 8: the records one after the other.
 
+use std::ops::Range;
+
 use crate::layout::*;
 use crate::rules::{Rules, Test};
 use crate::Verdict;
 
 /// The record that is due.
-#[derive(Clone, Copy)]
 enum Due {
     Size,
-    Slice { number: usize, n: usize, m: usize },
+    /// Any of these numbers, in a column of n slices and m inputs.
+    Slice {
+        numbers: Range<usize>,
+        n: usize,
+        m: usize,
+    },
     End,
 }
 
 /// n and m of a file that passes refusals 1 to 8, or its first refusal.
 pub fn check(rules: &Rules, file: &[u8]) -> Result<(usize, usize), Verdict> {
-    check_record(rules, file, 0, Due::Size)?;
+    check_record(rules, file, 0, &Due::Size)?;
     let n = usize::from(file[HEADER]);
     let m = usize::from(file[HEADER + 1]);
     for number in 0..n {
-        let due = Due::Slice { number, n, m };
-        check_record(rules, file, record_start(number), due)?;
+        let numbers = number..number + 1;
+        let due = Due::Slice { numbers, n, m };
+        check_record(rules, file, record_start(number), &due)?;
     }
-    check_record(rules, file, record_start(n), Due::End)?;
+    check_record(rules, file, record_start(n), &Due::End)?;
     let after_end = record_start(n) + END_RECORD;
     if file.len() > after_end {
         return Err(refused(8, after_end));
@@ -29,14 +36,26 @@ pub fn check(rules: &Rules, file: &[u8]) -> Result<(usize, usize), Verdict> {
     Ok((n, m))
 }
 
-/// Tests the record that starts at `place`; the first test it fails decides.
-fn check_record(rules: &Rules, file: &[u8], place: usize, due: Due) -> Result<(), Verdict> {
+/// The refusal's number of a slice record alone, any number below n being due.
+pub fn slice_refusal(rules: &Rules, record: &[u8], n: usize, m: usize) -> Option<u8> {
+    let numbers = 0..n;
+    refusal(rules, record, &Due::Slice { numbers, n, m })
+}
+
+/// Tests the record that starts at `place`.
+fn check_record(rules: &Rules, file: &[u8], place: usize, due: &Due) -> Result<(), Verdict> {
     let rest = file.get(place..).unwrap_or(&[]);
-    let failure = |&test: &Test| failure(rules, test, rest, due);
-    match rules.order.iter().find_map(failure) {
+    match refusal(rules, rest, due) {
         Some(number) => Err(refused(number, place)),
         None => Ok(()),
     }
+}
+
+/// The refusal's number of the record at the start of `rest`; the first test it
+/// fails decides.
+fn refusal(rules: &Rules, rest: &[u8], due: &Due) -> Option<u8> {
+    let mut tests = rules.order.iter();
+    tests.find_map(|&test| failure(rules, test, rest, due))
 }
 
 fn refused(number: u8, place: usize) -> Verdict {
@@ -44,7 +63,7 @@ fn refused(number: u8, place: usize) -> Verdict {
 }
 
 /// The refusal's number if the record at the start of `rest` fails the test.
-fn failure(rules: &Rules, test: Test, rest: &[u8], due: Due) -> Option<u8> {
+fn failure(rules: &Rules, test: Test, rest: &[u8], due: &Due) -> Option<u8> {
     let header = first_bytes::<HEADER>(rest, 0);
     let body = first_bytes::<SLICE_BODY>(rest, HEADER);
     let tag = header[0];
@@ -81,7 +100,7 @@ fn body_length(tag: u8) -> Option<usize> {
     }
 }
 
-fn due_tag(due: Due) -> u8 {
+fn due_tag(due: &Due) -> u8 {
     match due {
         Due::Size => TAG_SIZE,
         Due::Slice { .. } => TAG_SLICE,
@@ -89,16 +108,16 @@ fn due_tag(due: Due) -> u8 {
     }
 }
 
-fn slice_number_due(body: &[u8], due: Due) -> bool {
+fn slice_number_due(body: &[u8], due: &Due) -> bool {
     match due {
-        Due::Slice { number, .. } => usize::from(body[NUMBER]) == number,
+        Due::Slice { numbers, .. } => numbers.contains(&usize::from(body[NUMBER])),
         Due::Size | Due::End => true,
     }
 }
 
-fn choices_listed(rules: &Rules, body: &[u8], due: Due) -> bool {
+fn choices_listed(rules: &Rules, body: &[u8], due: &Due) -> bool {
     match due {
-        Due::Size => rules.n.contains(&body[0]) && rules.m.contains(&body[1]),
+        Due::Size => sizes_listed(rules, usize::from(body[0]), usize::from(body[1])),
         Due::Slice { .. } => {
             let mut choices = rules.choices.iter();
             choices.all(|choice| body[choice.at] <= choice.greatest)
@@ -107,7 +126,12 @@ fn choices_listed(rules: &Rules, body: &[u8], due: Due) -> bool {
     }
 }
 
-fn combinations_allowed(rules: &Rules, body: &[u8], due: Due) -> bool {
+/// Whether n and m are on their lists.
+pub fn sizes_listed(rules: &Rules, n: usize, m: usize) -> bool {
+    rules.n.contains(&n) && rules.m.contains(&m)
+}
+
+fn combinations_allowed(rules: &Rules, body: &[u8], due: &Due) -> bool {
     match due {
         Due::Slice { .. } => {
             let mut combinations = rules.combinations.iter();
@@ -117,9 +141,9 @@ fn combinations_allowed(rules: &Rules, body: &[u8], due: Due) -> bool {
     }
 }
 
-fn drivers_exist(rules: &Rules, body: &[u8], due: Due) -> bool {
+fn drivers_exist(rules: &Rules, body: &[u8], due: &Due) -> bool {
     match due {
-        Due::Slice { n, m, .. } => {
+        &Due::Slice { n, m, .. } => {
             (0..PIN_COUNT).all(|pin| (rules.driver)(pin_code(body, pin), n, m).is_some())
         }
         Due::Size | Due::End => true,

@@ -7,6 +7,7 @@ pub mod design;
 pub mod edge;
 pub mod graph;
 pub mod layout;
+pub mod records;
 pub mod rules;
 pub mod simulate;
 pub mod values;

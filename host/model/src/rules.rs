@@ -46,8 +46,8 @@ pub struct Rules {
     /// The tests of a record, in their order.
     pub order: Vec<Test>,
     /// The lists that n and m are on.
-    pub n: RangeInclusive<u8>,
-    pub m: RangeInclusive<u8>,
+    pub n: RangeInclusive<usize>,
+    pub m: RangeInclusive<usize>,
     /// The choices of a slice and their lists.
     pub choices: Vec<Choice>,
     /// The parts of rule 6.

@@ -167,7 +167,7 @@ impl Simulator {
 }
 
 /// Refusals 10 and 11 have place 0.
-fn require(passed: bool, number: u8) -> Answer {
+pub fn require(passed: bool, number: u8) -> Answer {
     match passed {
         true => Ok(()),
         false => Err(Refusal { number, place: 0 }),

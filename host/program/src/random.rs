@@ -38,6 +38,8 @@ pub fn files(seed: u64, times: usize) -> Vec<Vec<u8>> {
         files.extend(choices_replaced(&mut rng));
         files.extend(pins_replaced(&mut rng));
         files.extend(bits_set(&mut rng));
+        files.extend((0..30).map(|_| chained_file(&mut rng)));
+        files.extend(cut_files(&mut rng));
     }
     files
 }
@@ -452,6 +454,32 @@ fn bits_set(rng: &mut Prng) -> Vec<Vec<u8>> {
         }
     }
     files
+}
+
+/// A sound column through which carries run, from slice to slice.
+fn chained_file(rng: &mut Prng) -> Vec<u8> {
+    let n = *rng.pick(&[2, 3, 8, 63, 64]);
+    let mut column = small_column(rng, n);
+    for slice in 1..n {
+        if rng.chance(95) {
+            column.slices[slice][CARRY_START] = 3;
+        }
+        for letter in LETTERS {
+            // Such a table passes the carry on.
+            if column.slices[slice][MODE + letter] == 0 && rng.chance(80) {
+                column.fill(slice, letter, u64::MAX);
+            }
+        }
+    }
+    column.bytes()
+}
+
+/// A sound file cut at every length.
+fn cut_files(rng: &mut Prng) -> Vec<Vec<u8>> {
+    let file = small_column(rng, 2).bytes();
+    (0..file.len())
+        .map(|length| file[..length].to_vec())
+        .collect()
 }
 
 /// All four letters shift, from their bypass pins, with contents of zeros.

@@ -4,6 +4,7 @@
 mod loops;
 mod reads;
 mod records;
+mod slice;
 
 use model::design::{Design, Signal, Source, SIGNALS};
 use model::layout::*;
@@ -24,10 +25,34 @@ impl Mutant {
     }
 }
 
+/// A wrong way to test slice records: by other rules, or of other bodies than
+/// they have.
+pub struct WrongRules {
+    pub name: String,
+    pub rules: Rules,
+    change: Box<ChangeBody>,
+}
+
+/// Changes the body of a slice in a column of n slices and m inputs.
+type ChangeBody = dyn Fn(&mut [u8], usize, usize);
+
+impl WrongRules {
+    /// A record as it is seen.
+    pub fn change(&self, record: &mut [u8], n: usize, m: usize) {
+        (self.change)(&mut record[HEADER..], n, m);
+    }
+}
+
 /// All mutants.
 pub fn all() -> Vec<Mutant> {
-    let families = [records::all(), reads::all(), loops::all()];
+    let of_slices = of_a_slice().into_iter().map(judging).collect();
+    let families = [records::all(), of_slices, reads::all(), loops::all()];
     families.into_iter().flatten().collect()
+}
+
+/// Those about one slice record.
+pub fn of_a_slice() -> Vec<WrongRules> {
+    slice::all()
 }
 
 fn mutant(name: impl Into<String>, judge: impl Fn(&[u8]) -> Verdict + 'static) -> Mutant {
@@ -37,11 +62,16 @@ fn mutant(name: impl Into<String>, judge: impl Fn(&[u8]) -> Verdict + 'static) -
     }
 }
 
-/// A model with other rules of a record.
-fn with_rules(name: impl Into<String>, change: impl FnOnce(&mut Rules)) -> Mutant {
-    let mut rules = Rules::paper();
-    change(&mut rules);
-    mutant(name, move |file| judge_by(&rules, file))
+/// A model that tests slice records in a wrong way.
+fn judging(wrong: WrongRules) -> Mutant {
+    mutant(wrong.name.clone(), move |file| {
+        let mut file = file.to_vec();
+        let (n, m) = sizes(&file);
+        for record in slice_records(&mut file) {
+            wrong.change(record, n, m);
+        }
+        judge_by(&wrong.rules, &file)
+    })
 }
 
 /// A model that sees another file than it is given.
@@ -53,18 +83,19 @@ fn with_file(name: impl Into<String>, change: impl Fn(&mut Vec<u8>) + 'static) -
     })
 }
 
-/// A model that sees other bodies of slices; `change` gets n and m as well.
-fn with_bodies(
-    name: impl Into<String>,
-    change: impl Fn(&mut [u8], usize, usize) + 'static,
-) -> Mutant {
+/// A model that sees other bodies of slices.
+fn with_bodies(name: impl Into<String>, change: impl Fn(&mut [u8]) + 'static) -> Mutant {
     with_file(name, move |file| {
-        let size = |at: usize| file.get(at).copied().map_or(0, usize::from);
-        let (n, m) = (size(HEADER), size(HEADER + 1));
         for record in slice_records(file) {
-            change(&mut record[HEADER..], n, m);
+            change(&mut record[HEADER..]);
         }
     })
+}
+
+/// The n and m of a file, 0 where they are cut.
+fn sizes(file: &[u8]) -> (usize, usize) {
+    let size = |at: usize| file.get(at).copied().map_or(0, usize::from);
+    (size(HEADER), size(HEADER + 1))
 }
 
 /// The slice records of a file that are whole.

@@ -24,7 +24,7 @@ fn decoding() -> Vec<Mutant> {
         })
     };
     let pins_moved = |name: &str, from: fn(usize) -> usize| {
-        with_bodies(name, move |body, _, _| {
+        with_bodies(name, move |body| {
             let old = body.to_vec();
             for pin in 0..PIN_COUNT {
                 let code = pin_code(&old, from(pin));
@@ -65,17 +65,17 @@ fn decoding() -> Vec<Mutant> {
             28..=30 => pin - 4,
             _ => pin,
         }),
-        with_bodies("contents high byte first", |body, _, _| {
+        with_bodies("contents high byte first", |body| {
             for letter in LETTERS {
                 body[CONTENTS + 8 * letter..][..8].reverse();
             }
         }),
-        with_bodies("pin codes high byte first", |body, _, _| {
+        with_bodies("pin codes high byte first", |body| {
             for pin in 0..PIN_COUNT {
                 body[PINS + 2 * pin..][..2].reverse();
             }
         }),
-        with_bodies("letters from D to A", |body, _, _| {
+        with_bodies("letters from D to A", |body| {
             for at in [MODE, SHIFT_DATA, CARRY_DATA, MUX, MAIN, SECOND] {
                 body[at..at + 4].reverse();
             }

@@ -3,6 +3,7 @@
 
 mod edges;
 mod edits;
+pub mod records;
 mod signals;
 
 use model::Workings;

@@ -1,0 +1,175 @@
+//! Compares the program and the library with the model on files and records of
+//! fresh seeds, for as many minutes as it is told or up to the first difference.
+
+use std::hash::{BuildHasher, Hasher, RandomState};
+use std::io::{IsTerminal, Write};
+use std::panic::catch_unwind;
+use std::process::ExitCode;
+use std::sync::{Mutex, MutexGuard};
+use std::thread;
+use std::time::{Duration, Instant};
+
+use differential::calls::{by_library, Buffers, Model};
+use differential::saved::save;
+use differential::{columns, records, Counts};
+use program::compare::{report, Difference};
+use program::random;
+use program::run::{failing_folder, run};
+
+const BETWEEN_REPORTS: Duration = Duration::from_secs(10);
+
+/// What all workers share.
+struct Soak {
+    start: Instant,
+    length: Duration,
+    progress: Mutex<Progress>,
+}
+
+#[derive(Default)]
+struct Progress {
+    seeds: usize,
+    counts: Counts,
+    /// What differs, from the worker that found it first.
+    failure: Option<String>,
+}
+
+fn main() -> ExitCode {
+    let arguments: Vec<String> = std::env::args().skip(1).collect();
+    let Some(minutes) = minutes(&arguments) else {
+        eprintln!("usage: soak MINUTES");
+        return ExitCode::from(2);
+    };
+    let soak = Soak {
+        start: Instant::now(),
+        length: Duration::from_secs_f64(60.0 * minutes),
+        progress: Mutex::default(),
+    };
+    thread::scope(|scope| {
+        for _ in 0..thread::available_parallelism().map_or(1, usize::from) {
+            scope.spawn(|| soak.work());
+        }
+        soak.report();
+    });
+    println!("{}", soak.line());
+    let failure = soak.progress().failure.take();
+    match failure {
+        Some(failure) => {
+            println!("{failure}");
+            ExitCode::FAILURE
+        }
+        None => ExitCode::SUCCESS,
+    }
+}
+
+fn minutes(arguments: &[String]) -> Option<f64> {
+    match arguments {
+        [minutes] => {
+            let minutes: f64 = minutes.parse().ok()?;
+            (0.0..=1e6).contains(&minutes).then_some(minutes)
+        }
+        _ => None,
+    }
+}
+
+impl Soak {
+    fn progress(&self) -> MutexGuard<'_, Progress> {
+        self.progress.lock().expect("the progress")
+    }
+
+    fn is_over(&self) -> bool {
+        self.start.elapsed() >= self.length || self.progress().failure.is_some()
+    }
+
+    /// Takes seed after seed. A panic is a difference that wasn't told well.
+    fn work(&self) {
+        while !self.is_over() {
+            let seed = RandomState::new().build_hasher().finish();
+            self.progress().seeds += 1;
+            let failure = match catch_unwind(|| self.seed(seed)) {
+                Ok(Ok(())) => None,
+                Ok(Err(failure)) => Some(failure),
+                Err(_) => Some(format!("panicked at seed {seed}")),
+            };
+            let mut progress = self.progress();
+            progress.failure = progress.failure.take().or(failure);
+        }
+    }
+
+    /// All files and records of a seed, as far as there is time.
+    fn seed(&self, seed: u64) -> Result<(), String> {
+        let saved = |difference: Box<_>| save(&difference, &failing_folder());
+        for (number, file) in random::files(seed, 1).into_iter().enumerate() {
+            if self.is_over() {
+                return Ok(());
+            }
+            let subject = columns::Subject::new(number, file);
+            judge(&subject, seed)?;
+            let model = |call, buffers: &mut Buffers| subject.model.call(call, buffers);
+            let counts = columns::compare(&subject, &by_library, &model, seed);
+            self.progress().counts += counts.map_err(saved)?;
+        }
+        let model = Model::of(&[]);
+        let model = |call, buffers: &mut Buffers| model.call(call, buffers);
+        for subject in records::subjects(seed, 1) {
+            if self.is_over() {
+                return Ok(());
+            }
+            let counts = records::compare(&subject, &by_library, &model, seed);
+            self.progress().counts += counts.map_err(saved)?;
+        }
+        Ok(())
+    }
+
+    /// Says how far it is, every ten seconds, in place on a terminal.
+    fn report(&self) {
+        let mut said = Instant::now();
+        let in_place = std::io::stdout().is_terminal();
+        while !self.is_over() {
+            thread::sleep(Duration::from_millis(200));
+            if said.elapsed() >= BETWEEN_REPORTS {
+                said = Instant::now();
+                match in_place {
+                    true => print!("\r\x1b[K{}", self.line()),
+                    false => println!("{}", self.line()),
+                }
+                let _ = std::io::stdout().flush();
+            }
+        }
+        if in_place {
+            print!("\r\x1b[K");
+        }
+    }
+
+    fn line(&self) -> String {
+        let progress = self.progress();
+        let counts = &progress.counts;
+        let minutes = self.start.elapsed().as_secs_f64() / 60.0;
+        let differences = match progress.failure {
+            Some(_) => "a difference",
+            None => "no difference",
+        };
+        format!(
+            "{minutes:.1} minutes, {} seeds, {} files, {} records, {} calls, {differences}",
+            progress.seeds,
+            counts.files,
+            counts.records,
+            counts.calls(),
+        )
+    }
+}
+
+/// Compares the program's line on a file with the model's answer.
+fn judge(subject: &columns::Subject, seed: u64) -> Result<(), String> {
+    let program = run(&subject.file);
+    let model = subject.model.judge().to_string();
+    if program == model {
+        return Ok(());
+    }
+    let difference = Difference {
+        number: subject.number,
+        file: subject.file.clone(),
+        program,
+        model,
+    };
+    Err(report(&[difference], &failing_folder(), seed))
+}

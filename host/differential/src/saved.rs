@@ -1,0 +1,139 @@
+//! Cases as text: a line for the call and its numbers, and one for each buffer
+//! that isn't empty. Bytes and words are in hexadecimal, words with spaces
+//! between them. A line that starts with # says something to the reader.
+
+use std::collections::BTreeMap;
+use std::fmt::Write;
+use std::path::Path;
+
+use library::lent::Lent;
+use library::workbench::Workbench;
+
+use crate::calls::{Buffers, Call};
+use crate::comparison::{Case, Difference};
+
+/// Writes a difference's case to a folder, and says where and what it is.
+pub fn save(difference: &Difference, folder: &Path) -> String {
+    let path = folder.join(format!("failing-{}.case", difference.name));
+    let text = &difference.text;
+    let lines = format!("# {text}\n{}", to_text(&difference.case));
+    std::fs::create_dir_all(folder).expect("make the folder of failing cases");
+    std::fs::write(&path, lines).expect("write a failing case");
+    format!("{}: {}: {text}", path.display(), name(difference.case.call))
+}
+
+pub fn to_text(case: &Case) -> String {
+    let mut text = format!("call {}\n", name(case.call));
+    let words = case.buffers.column.contents.get();
+    if !words.is_empty() {
+        let words: Vec<String> = words.iter().map(|word| format!("{word:016x}")).collect();
+        let _ = writeln!(text, "contents {}", words.join(" "));
+    }
+    for (name, lent) in case.buffers.bytes() {
+        if !lent.get().is_empty() {
+            let digits: String = lent
+                .get()
+                .iter()
+                .map(|byte| format!("{byte:02x}"))
+                .collect();
+            let _ = writeln!(text, "{name} {digits}");
+        }
+    }
+    text
+}
+
+/// A call as its line has it.
+pub fn name(call: Call) -> String {
+    match call {
+        Call::Judge => "judge".to_string(),
+        Call::PowerUp => "power_up".to_string(),
+        Call::Settle => "settle".to_string(),
+        Call::Clock => "clock".to_string(),
+        Call::EditInput { input, byte } => format!("edit_input {input} {byte}"),
+        Call::EditTable { table, word } => format!("edit_table {table} {word}"),
+        Call::ReadRecord { n, m } => format!("read_record {n} {m}"),
+        Call::WriteRecord { n, m } => format!("write_record {n} {m}"),
+    }
+}
+
+/// The case that a text holds, or what is wrong with it.
+pub fn from_text(text: &str) -> Result<Case, String> {
+    let mut lines = BTreeMap::new();
+    for line in text.lines().filter(|line| !line.starts_with('#')) {
+        let (name, rest) = line.split_once(' ').ok_or(format!("one word: {line}"))?;
+        if lines.insert(name, rest).is_some() {
+            return Err(format!("twice: {name}"));
+        }
+    }
+    let call = lines.remove("call").ok_or("no call")?;
+    let call = parse_call(call).ok_or(format!("no such call: {call}"))?;
+    let buffers = parse_buffers(&mut lines)?;
+    match lines.keys().next() {
+        Some(name) => Err(format!("no such buffer: {name}")),
+        None => Ok(Case { call, buffers }),
+    }
+}
+
+fn parse_call(text: &str) -> Option<Call> {
+    let words: Vec<&str> = text.split(' ').collect();
+    Some(match words[..] {
+        ["judge"] => Call::Judge,
+        ["power_up"] => Call::PowerUp,
+        ["settle"] => Call::Settle,
+        ["clock"] => Call::Clock,
+        ["edit_input", input, byte] => Call::EditInput {
+            input: input.parse().ok()?,
+            byte: byte.parse().ok()?,
+        },
+        ["edit_table", table, word] => Call::EditTable {
+            table: table.parse().ok()?,
+            word: word.parse().ok()?,
+        },
+        ["read_record", n, m] => Call::ReadRecord {
+            n: n.parse().ok()?,
+            m: m.parse().ok()?,
+        },
+        ["write_record", n, m] => Call::WriteRecord {
+            n: n.parse().ok()?,
+            m: m.parse().ok()?,
+        },
+        _ => return None,
+    })
+}
+
+/// The buffers; what no line has is empty.
+fn parse_buffers(lines: &mut BTreeMap<&str, &str>) -> Result<Buffers, String> {
+    let words = lines.remove("contents").map_or(Ok(vec![]), parse_words)?;
+    let mut bytes = |name| {
+        let bytes = lines.remove(name).map_or(Ok(vec![]), parse_bytes)?;
+        Ok::<Lent<u8>, String>(Lent::bytes(&bytes))
+    };
+    Ok(Buffers {
+        column: Workbench {
+            file: bytes("file")?,
+            contents: Lent::words(&words),
+            flops: bytes("flops")?,
+            inputs: bytes("inputs")?,
+            values: bytes("values")?,
+        },
+        record: bytes("record")?,
+        body: bytes("body")?,
+        part: bytes("part")?,
+    })
+}
+
+fn parse_words(text: &str) -> Result<Vec<u64>, String> {
+    let word = |word| u64::from_str_radix(word, 16).map_err(|_| format!("no word: {word}"));
+    text.split(' ').map(word).collect()
+}
+
+fn parse_bytes(text: &str) -> Result<Vec<u8>, String> {
+    let digits: Option<Vec<u32>> = text.chars().map(|digit| digit.to_digit(16)).collect();
+    match digits {
+        Some(digits) if digits.len() % 2 == 0 => {
+            let byte = |pair: &[u32]| (16 * pair[0] + pair[1]) as u8;
+            Ok(digits.chunks(2).map(byte).collect())
+        }
+        _ => Err(format!("no bytes: {text}")),
+    }
+}

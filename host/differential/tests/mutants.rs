@@ -1,0 +1,65 @@
+//! The comparison can fail: every model that makes one mistake is told from the
+//! library by it.
+
+mod wrong;
+
+use differential::calls::{by_library, Model};
+use differential::columns::{self, Subject};
+use differential::records;
+use model::Workings;
+use program::random::seed;
+
+/// The same run as with the right model finds a difference for each wrong one.
+#[test]
+fn every_mutant_of_running_is_caught() {
+    let seed = seed();
+    let subjects = columns::subjects(seed, 1);
+    let mutants = wrong::all();
+    let mut missed = vec![];
+    for (name, change) in &mutants {
+        let mut workings = Workings::paper();
+        change(&mut workings);
+        match columns::compare_all(&subjects, &by_library, workings, seed) {
+            Ok(_) => missed.push(name),
+            Err(difference) => println!("{name}: {}", difference.text),
+        }
+    }
+    println!("{} mutants", mutants.len());
+    assert!(missed.is_empty(), "not caught: {missed:?}");
+}
+
+/// The same for the record calls.
+#[test]
+fn every_mutant_of_records_is_caught() {
+    let seed = seed();
+    let subjects = records::subjects(seed, 1);
+    let mutants = wrong::records::all();
+    let mut missed = vec![];
+    for mutant in &mutants {
+        let model = |call, buffers: &mut _| (mutant.caller)(call, buffers);
+        match records::compare_all(&subjects, &by_library, &model, seed) {
+            Ok(_) => missed.push(&mutant.name),
+            Err(difference) => println!("{}: {}", mutant.name, difference.text),
+        }
+    }
+    println!("{} mutants", mutants.len());
+    assert!(missed.is_empty(), "not caught: {missed:?}");
+}
+
+/// A difference in the place alone is found.
+#[test]
+fn another_place_is_caught() {
+    let looped = |code| program::column::z().pin(0, "A1", code).bytes();
+    let subject = Subject {
+        number: 0,
+        file: looped(4096),
+        model: Model::of(&looped(4100)),
+    };
+    let compared = columns::compare_all(&[subject], &by_library, Workings::paper(), 1);
+    let difference = compared.unwrap_err();
+    assert_eq!(difference.name, "1-0");
+    assert_eq!(
+        difference.text,
+        "the library answers refused 9 0, the model refused 9 4"
+    );
+}

@@ -1,0 +1,90 @@
+//! Random files, records and calls: the library's answers and buffers against the model's.
+
+use differential::calls::{by_library, Answer, Buffers, Call, Model};
+use differential::comparison::Difference;
+use differential::saved::save;
+use differential::{columns, records, Counts};
+use library::{read_record, write_record};
+use model::layout::*;
+use model::Workings;
+use program::random::{seed, times};
+use program::run::failing_folder;
+use program::traps;
+
+/// What was compared, where nothing differs.
+fn agreed(compared: Result<Counts, Box<Difference>>) -> Counts {
+    match compared {
+        Ok(counts) => counts,
+        Err(difference) => panic!("{}", save(&difference, &failing_folder())),
+    }
+}
+
+fn by_model(call: Call, buffers: &mut Buffers) -> Answer {
+    Model::of(buffers.column.file.get()).call(call, buffers)
+}
+
+/// Every answer is given by many of the calls: done, and refusals 1 to 11.
+#[test]
+fn calls_on_files() {
+    let seed = seed();
+    let subjects = columns::subjects(seed, times());
+    let paper = Workings::paper();
+    let counts = agreed(columns::compare_all(&subjects, &by_library, paper, seed));
+    println!("seed {seed}: {counts:?}, {} calls", counts.calls());
+    assert!(counts.answers.iter().all(|&count| count >= 100));
+}
+
+/// The same calls on the files that are directed at the judge's rules.
+#[test]
+fn calls_on_directed_files() {
+    let files = traps::all().into_iter().map(|case| case.file).collect();
+    let subjects = columns::subjects_of(files);
+    let paper = Workings::paper();
+    let counts = agreed(columns::compare_all(&subjects, &by_library, paper, 0));
+    println!("{counts:?}, {} calls", counts.calls());
+}
+
+/// Every answer that a record call can give is given by many: done, and
+/// refusals 2 to 7, 10 and 11.
+#[test]
+fn calls_on_records() {
+    let seed = seed();
+    let subjects = records::subjects(seed, times());
+    let counts = agreed(records::compare_all(
+        &subjects,
+        &by_library,
+        &by_model,
+        seed,
+    ));
+    println!("seed {seed}: {counts:?}, {} calls", counts.calls());
+    let [done, one, two_to_seven @ .., eight, nine, ten, eleven] = counts.answers;
+    assert_eq!([one, eight, nine], [0; 3]);
+    assert!(two_to_seven.iter().all(|&count| count >= 100));
+    assert!([done, ten, eleven].iter().all(|&count| count >= 1000));
+}
+
+#[test]
+fn sizes_and_lengths_in_turn() {
+    let counts = agreed(records::compare_in_turn(&by_library, &by_model));
+    println!("{counts:?}, {} calls", counts.calls());
+}
+
+/// Writing what was read gives the same record, reading what was written the
+/// same body.
+#[test]
+fn round_trips() {
+    let mut trips = 0;
+    for subject in records::subjects(seed(), 1) {
+        let (n, m, mut record) = (subject.n, subject.m, [7; SLICE_RECORD]);
+        let (mut body, mut again) = ([7; SLICE_BODY], [9; SLICE_BODY]);
+        if read_record(&subject.record, n, m, &mut body).is_ok() {
+            assert_eq!(write_record(&body, n, m, &mut record), Ok(()));
+            assert_eq!(record[..], subject.record);
+            assert_eq!(read_record(&record, n, m, &mut again), Ok(()));
+            assert_eq!(again, body);
+            trips += 1;
+        }
+    }
+    println!("{trips} records");
+    assert!(trips >= 1000);
+}

@@ -1,0 +1,127 @@
+//! A difference is saved as a case that repeats it.
+
+mod wrong;
+
+use std::path::Path;
+use std::process::Command;
+
+use differential::calls::{by_library, Buffers, Call, Caller, Model};
+use differential::comparison::{replayed, Case, Difference};
+use differential::saved::{from_text, save, to_text};
+use differential::{columns, records};
+use library::lent::Lent;
+use library::workbench::Workbench;
+use model::Workings;
+use program::column::Column;
+use program::random::seed;
+
+/// Saves a difference with a wrong model and reads it back: the case is the same, differs in the same way with
+/// the wrong model, and not at all with the right one.
+fn repeats(difference: &Difference, wrong: &Caller) {
+    let said = save(difference, &folder());
+    let path = folder().join(format!("failing-{}.case", difference.name));
+    assert!(said.starts_with(path.to_str().expect("a path of text")));
+    assert!(said.ends_with(&difference.text));
+    let text = std::fs::read_to_string(&path).expect("the saved case");
+    let case = from_text(&text).expect("a case");
+    assert_eq!(case, difference.case);
+    let again = replayed(&case, &by_library, wrong);
+    assert_eq!(again.difference.as_ref(), Some(&difference.text));
+    let model = Model::of(case.buffers.column.file.get());
+    let right = |call, buffers: &mut Buffers| model.call(call, buffers);
+    assert_eq!(replayed(&case, &by_library, &right).difference, None);
+}
+
+fn folder() -> &'static Path {
+    Path::new(env!("CARGO_TARGET_TMPDIR"))
+}
+
+/// Differences of calls of each kind on files.
+#[test]
+fn differences_on_files_repeat() {
+    let seed = seed();
+    let subjects = columns::subjects(seed, 1);
+    for (name, change) in wrong::all() {
+        let mut workings = Workings::paper();
+        change(&mut workings);
+        let difference = columns::compare_all(&subjects, &by_library, workings, seed);
+        let difference = difference.expect_err(name);
+        let model = Model::of(difference.case.buffers.column.file.get()).with(workings);
+        repeats(&difference, &|call, buffers| model.call(call, buffers));
+    }
+}
+
+/// Differences of the reader and of the writer.
+#[test]
+fn differences_on_records_repeat() {
+    let seed = seed();
+    let subjects = records::subjects(seed, 1);
+    let mutants = wrong::records::all().into_iter();
+    for mutant in mutants.filter(|mutant| mutant.name.contains("writes")) {
+        let difference = records::compare_all(&subjects, &by_library, &mutant.caller, seed);
+        repeats(&difference.expect_err(&mutant.name), &mutant.caller);
+    }
+}
+
+/// A case's lines, written by hand.
+#[test]
+fn case_as_text() {
+    let column = Workbench {
+        file: Lent::bytes(&[1, 2, 0xFF]),
+        contents: Lent::words(&[1, 1 << 63]),
+        flops: Lent::bytes(&[0x5A]),
+        inputs: Lent::bytes(&[]),
+        values: Lent::bytes(&[0, 1]),
+    };
+    let (table, word) = ((1 << 32) + 3, 10);
+    let case = Case {
+        call: Call::EditTable { table, word },
+        buffers: Buffers::of_column(column),
+    };
+    let lines = "call edit_table 4294967299 10\n\
+                 contents 0000000000000001 8000000000000000\n\
+                 file 0102ff\n\
+                 flops 5a\n\
+                 values 0001\n";
+    assert_eq!(to_text(&case), lines);
+    assert_eq!(from_text(lines), Ok(case));
+}
+
+#[test]
+fn texts_that_are_no_case() {
+    for (text, error) in [
+        ("file 00\n", "no call"),
+        ("call dance\n", "no such call: dance"),
+        ("call settle 1\n", "no such call: settle 1"),
+        ("call edit_input 1 256\n", "no such call: edit_input 1 256"),
+        ("call judge\ncall judge\n", "twice: call"),
+        ("call judge\nbooty 00\n", "no such buffer: booty"),
+        ("call judge\nfile\n", "one word: file"),
+        ("call judge\nfile 012\n", "no bytes: 012"),
+        ("call judge\nfile +1\n", "no bytes: +1"),
+        ("call settle\ncontents 0 x\n", "no word: x"),
+    ] {
+        assert_eq!(from_text(text), Err(error.to_string()));
+    }
+}
+
+/// What the command `replay` writes of a case, and its exit status.
+fn replay(name: &str, text: &str) -> (String, Option<i32>) {
+    let path = folder().join(name);
+    std::fs::write(&path, text).expect("write a case");
+    let mut command = Command::new(env!("CARGO_BIN_EXE_replay"));
+    let output = command.arg(path).output().expect("run replay");
+    let text = String::from_utf8(output.stdout).expect("text");
+    (text, output.status.code())
+}
+
+#[test]
+fn replay_makes_the_call() {
+    let file = Column::zeros(1, 0).pin(0, "A1", 4100).bytes();
+    let digits: String = file.iter().map(|byte| format!("{byte:02x}")).collect();
+    let (text, status) = replay("looped.case", &format!("call settle\nfile {digits}\n"));
+    assert_eq!(status, Some(0));
+    let lines = "call:    settle\nlibrary: refused 9 4\nmodel:   refused 9 4\nno difference\n";
+    assert_eq!(text, lines);
+    assert_eq!(replay("no.case", "call dance\n").1, Some(2));
+}

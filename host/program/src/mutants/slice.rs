@@ -1,0 +1,278 @@
+//! Mistakes about one slice record, which show in a file and in the record calls.
+
+use super::WrongRules;
+use model::design::{driver, Driver};
+use model::layout::*;
+use model::rules::{Choice, Combination, Test};
+use model::Rules;
+
+pub fn all() -> Vec<WrongRules> {
+    let families = [
+        orders(),
+        sizes(),
+        choices(),
+        combinations(),
+        contents_bits(),
+        codes(),
+        pins(),
+    ];
+    families.into_iter().flatten().collect()
+}
+
+fn by_rules(name: impl Into<String>, change: impl FnOnce(&mut Rules)) -> WrongRules {
+    let mut rules = Rules::paper();
+    change(&mut rules);
+    WrongRules {
+        name: name.into(),
+        rules,
+        change: Box::new(|_, _, _| {}),
+    }
+}
+
+fn by_bodies(
+    name: impl Into<String>,
+    change: impl Fn(&mut [u8], usize, usize) + 'static,
+) -> WrongRules {
+    WrongRules {
+        name: name.into(),
+        rules: Rules::paper(),
+        change: Box::new(change),
+    }
+}
+
+/// The tests of a whole record in another order.
+fn orders() -> Vec<WrongRules> {
+    let moved = |name: &str, test: Test, to: usize| {
+        by_rules(name, |rules| {
+            rules.order.retain(|&other| other != test);
+            rules.order.insert(to, test);
+        })
+    };
+    vec![
+        moved("TagDue tested before TagKnown", Test::TagDue, 1),
+        moved("Length tested before TagDue", Test::Length, 2),
+        moved("Choices tested before SliceNumber", Test::Choices, 5),
+        moved("Combinations tested before Choices", Test::Combinations, 6),
+        moved("Drivers tested before Combinations", Test::Drivers, 7),
+        moved("TagDue tested with the slice number", Test::TagDue, 4),
+        moved("Length tested before the tag", Test::Length, 1),
+        moved("SliceNumber tested last", Test::SliceNumber, 8),
+        moved("Drivers tested before the choices", Test::Drivers, 6),
+    ]
+}
+
+/// Other limits of n and m.
+fn sizes() -> Vec<WrongRules> {
+    vec![
+        by_rules("n = 0 allowed", |rules| rules.n = 0..=64),
+        by_rules("n = 65 allowed", |rules| rules.n = 1..=65),
+        by_rules("n = 64 refused", |rules| rules.n = 1..=63),
+        by_rules("m = 0 refused", |rules| rules.m = 1..=64),
+        by_rules("m = 65 allowed", |rules| rules.m = 0..=65),
+        by_rules("m = 64 refused", |rules| rules.m = 0..=63),
+    ]
+}
+
+/// Each choice's list one longer, the value more taken for 0, and one shorter.
+fn choices() -> Vec<WrongRules> {
+    let mut mutants = vec![];
+    for (i, choice) in Rules::paper().choices.into_iter().enumerate() {
+        let at = choice.at;
+        let more = choice.greatest + 1;
+        let longer = format!("choice at byte {at} may be {more}");
+        let shorter = format!("choice at byte {at} may not be {}", choice.greatest);
+        mutants.extend([
+            by_bodies(longer, move |body, _, _| {
+                if body[at] == more {
+                    body[at] = 0;
+                }
+            }),
+            by_rules(shorter, |rules| rules.choices[i].greatest -= 1),
+        ]);
+    }
+    mutants
+}
+
+/// Parts of rule 6 dropped, and rules stricter than rule 6.
+fn combinations() -> Vec<WrongRules> {
+    let dropped = |part: Combination| {
+        by_rules(format!("rule 6 without {part:?}"), |rules| {
+            rules.combinations.retain(|&other| other != part);
+        })
+    };
+    let stricter = |name: &str, forbidden: fn(&[u8]) -> bool| {
+        by_bodies(name, move |body, _, _| {
+            let listed = |choice: &Choice| body[choice.at] <= choice.greatest;
+            if Rules::paper().choices.iter().all(listed) && forbidden(body) {
+                // Something that rule 6 forbids as well.
+                body[SHIFT_DATA + D] = 1;
+            }
+        })
+    };
+    let mut parts = Rules::paper().combinations;
+    parts.retain(|&part| part != Combination::StartBelowSliceZero);
+    let mut mutants: Vec<WrongRules> = parts.into_iter().map(dropped).collect();
+    mutants.push(by_bodies("carry start 3 is 0 in slice 0", |body, _, _| {
+        if Combination::StartBelowSliceZero.found_in(body) {
+            body[CARRY_START] = 0;
+        }
+    }));
+    mutants.extend([
+        stricter("SLICEM without memory or shift refused", |body| {
+            body[KIND] == 1 && body[MODE..][..4] == [0; 4]
+        }),
+        stricter("memory beside logic refused", |body| {
+            let modes = &body[MODE..][..4];
+            modes.contains(&1) && modes.contains(&0)
+        }),
+        stricter("shift beside logic refused", |body| {
+            let modes = &body[MODE..][..4];
+            modes.contains(&2) && modes.contains(&0)
+        }),
+        stricter("shift without D refused", |body| {
+            let modes = &body[MODE..][..4];
+            modes.contains(&2) && modes[D] != 2
+        }),
+        stricter("cascade at C refused", |body| body[SHIFT_DATA + C] == 1),
+        stricter("bits 32 to 63 refused in logic", |body| {
+            let high = |letter: usize| contents(body, letter) >> 32 != 0;
+            LETTERS
+                .into_iter()
+                .any(|letter| body[MODE + letter] == 0 && high(letter))
+        }),
+        stricter("bits 32 to 63 refused in memory", |body| {
+            let high = |letter: usize| contents(body, letter) >> 32 != 0;
+            LETTERS
+                .into_iter()
+                .any(|letter| body[MODE + letter] == 1 && high(letter))
+        }),
+        stricter("bit 31 refused in shift", |body| {
+            let bit_31 = |letter: usize| contents(body, letter) >> 31 & 1 == 1;
+            LETTERS
+                .into_iter()
+                .any(|letter| body[MODE + letter] == 2 && bit_31(letter))
+        }),
+        stricter("carry start 3 refused everywhere", |body| {
+            body[CARRY_START] == 3
+        }),
+    ]);
+    mutants
+}
+
+/// Each of bits 32 to 63 of each letter unjudged.
+fn contents_bits() -> Vec<WrongRules> {
+    let mut mutants = vec![];
+    for letter in LETTERS {
+        for bit in 32..64 {
+            let at = CONTENTS + 8 * letter + bit / 8;
+            let name = format!("bit {bit} of table {letter} unjudged");
+            mutants.push(by_bodies(name, move |body, _, _| {
+                body[at] &= !(1 << (bit % 8));
+            }));
+        }
+    }
+    mutants
+}
+
+/// Codes that don't exist taken for constant 0, codes that exist refused.
+fn codes() -> Vec<WrongRules> {
+    let decoder = |name: &str, driver: fn(u16, usize, usize) -> Option<Driver>| {
+        by_rules(name, |rules| rules.driver = driver)
+    };
+    const NONE: Option<Driver> = Some(Driver::Constant(false));
+    vec![
+        decoder("code 2 exists", |code, n, m| match code {
+            2 => NONE,
+            _ => driver(code, n, m),
+        }),
+        decoder("code 1 refused", |code, n, m| match code {
+            1 => None,
+            _ => driver(code, n, m),
+        }),
+        decoder("codes 2 to 255 exist", |code, n, m| match code {
+            2..=255 => NONE,
+            _ => driver(code, n, m),
+        }),
+        decoder("input m exists", |code, n, m| driver(code, n, m + 1)),
+        decoder("input m - 1 refused", |code, n, m| {
+            if usize::from(code) == 255 + m && m > 0 {
+                None
+            } else {
+                driver(code, n, m)
+            }
+        }),
+        decoder("64 inputs exist", |code, n, _| driver(code, n, 64)),
+        decoder("inputs up to code 4095 exist", |code, n, _| {
+            driver(code, n, 3840)
+        }),
+        decoder("slice n exists", |code, n, m| {
+            driver(code, n, m).or(driver(code, n + 1, m).and(NONE))
+        }),
+        decoder("64 slices exist", |code, n, m| {
+            driver(code, n, m).or(driver(code, 64, m).and(NONE))
+        }),
+        decoder("slice n - 1 refused", |code, n, m| {
+            match driver(code, n, m) {
+                Some(Driver::Output { slice, .. }) if slice == n - 1 => None,
+                driver => driver,
+            }
+        }),
+        decoder("output 12 exists", |code, n, m| match code {
+            4096.. if code % 16 == 12 && driver(code - 1, n, m).is_some() => NONE,
+            _ => driver(code, n, m),
+        }),
+        decoder("outputs 12 to 15 exist", |code, n, m| match code {
+            4096.. if code % 16 >= 12 && driver(code - code % 16, n, m).is_some() => NONE,
+            _ => driver(code, n, m),
+        }),
+        decoder("output 11 refused", |code, n, m| match code {
+            4096.. if code % 16 == 11 => None,
+            _ => driver(code, n, m),
+        }),
+        decoder("codes taken modulo 8192", |code, n, m| {
+            driver(code % 8192, n, m)
+        }),
+        decoder("codes taken modulo 32768", |code, n, m| {
+            driver(code % 32768, n, m)
+        }),
+    ]
+}
+
+/// Pins that rule 7 passes over.
+fn pins() -> Vec<WrongRules> {
+    let mut mutants: Vec<WrongRules> = (0..PIN_COUNT)
+        .map(|pin| {
+            by_bodies(
+                format!("pin {} unjudged", PIN_NAMES[pin]),
+                move |body, n, m| {
+                    repair(body, pin, n, m);
+                },
+            )
+        })
+        .collect();
+    mutants.push(by_bodies("pin 1 unjudged in shift mode", |body, n, m| {
+        for letter in LETTERS {
+            if body[MODE + letter] == 2 {
+                repair(body, table_pin(letter, 1), n, m);
+            }
+        }
+    }));
+    mutants.push(by_bodies("SR unjudged where ignored", |body, n, m| {
+        if body[SET_RESET_PIN] == 0 {
+            repair(body, SR, n, m);
+        }
+    }));
+    mutants.push(by_bodies("WE unjudged in a SLICEL", |body, n, m| {
+        if body[KIND] == 0 {
+            repair(body, WE, n, m);
+        }
+    }));
+    mutants
+}
+
+/// A pin whose driver doesn't exist becomes constant.
+fn repair(body: &mut [u8], pin: usize, n: usize, m: usize) {
+    if driver(pin_code(body, pin), n, m).is_none() {
+        body[PINS + 2 * pin..][..2].fill(0);
+    }
+}
