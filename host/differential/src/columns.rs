@@ -8,10 +8,8 @@ use program::prng::Prng;
 use program::random;
 
 use crate::calls::{Buffers, Call, Caller, Model};
-use crate::comparison::{Comparison, Difference};
+use crate::comparison::{Compared, Comparison, Sides};
 use crate::Counts;
-
-type Compared = Result<(), Box<Difference>>;
 
 /// A file, its place among those of the seed, and the model of it.
 pub struct Subject {
@@ -47,32 +45,22 @@ pub fn compare_all(
     library: &Caller,
     workings: Workings,
     seed: u64,
-) -> Result<Counts, Box<Difference>> {
+) -> Compared<Counts> {
     let mut counts = Counts::default();
     for subject in subjects {
         let model = subject.model.with(workings);
         let model = |call, buffers: &mut Buffers| model.call(call, buffers);
-        counts += compare(subject, library, &model, seed)?;
+        counts += compare(subject, Sides::new(library, &model), seed)?;
     }
     Ok(counts)
 }
 
-/// Makes all calls on a file, up to the first difference.
-pub fn compare(
-    subject: &Subject,
-    library: &Caller,
-    model: &Caller,
-    seed: u64,
-) -> Result<Counts, Box<Difference>> {
+/// Makes all calls on a file.
+pub fn compare(subject: &Subject, sides: Sides, seed: u64) -> Compared<Counts> {
     let number = subject.number;
     let mut rng = Prng::new(seed ^ (number as u64) << 32);
-    let mut pair = Comparison {
-        name: format!("{seed}-{number}"),
-        library,
-        model,
-        buffers: Buffers::of_column(lent(&mut rng, &subject.file)),
-        counts: Counts::default(),
-    };
+    let buffers = Buffers::of_column(lent(&mut rng, &subject.file));
+    let mut pair = Comparison::new(format!("{seed}-{number}"), sides, buffers);
     pair.call(Call::Judge)?;
     match subject.model.simulator.design() {
         Err(_) => each_call(&mut pair, any_edits(&mut rng))?,

@@ -23,6 +23,22 @@ pub struct Difference {
     pub text: String,
 }
 
+/// What is compared, up to the first difference.
+pub type Compared<T = ()> = Result<T, Box<Difference>>;
+
+/// The two that make the same calls.
+#[derive(Clone, Copy)]
+pub struct Sides<'a> {
+    pub library: &'a Caller<'a>,
+    pub model: &'a Caller<'a>,
+}
+
+impl<'a> Sides<'a> {
+    pub fn new(library: &'a Caller<'a>, model: &'a Caller<'a>) -> Sides<'a> {
+        Sides { library, model }
+    }
+}
+
 /// What a call answered and left.
 #[derive(PartialEq)]
 struct Outcome {
@@ -31,7 +47,8 @@ struct Outcome {
 }
 
 impl Outcome {
-    fn of(caller: &Caller, call: Call, mut buffers: Buffers) -> Outcome {
+    fn of(caller: &Caller, call: Call, before: &Buffers) -> Outcome {
+        let mut buffers = before.clone();
         let answer = caller(call, &mut buffers);
         Outcome { answer, buffers }
     }
@@ -89,9 +106,9 @@ pub struct Replay {
     pub difference: Option<String>,
 }
 
-pub fn replayed(case: &Case, library: &Caller, model: &Caller) -> Replay {
-    let library = Outcome::of(library, case.call, case.buffers.clone());
-    let model = Outcome::of(model, case.call, case.buffers.clone());
+pub fn replayed(case: &Case, sides: Sides) -> Replay {
+    let library = Outcome::of(sides.library, case.call, &case.buffers);
+    let model = Outcome::of(sides.model, case.call, &case.buffers);
     Replay {
         library: library.answer,
         model: model.answer,
@@ -101,18 +118,26 @@ pub fn replayed(case: &Case, library: &Caller, model: &Caller) -> Replay {
 
 /// The library and the model side by side, and the buffers they share.
 pub struct Comparison<'a> {
-    pub name: String,
-    pub library: &'a Caller<'a>,
-    pub model: &'a Caller<'a>,
+    name: String,
+    sides: Sides<'a>,
     pub buffers: Buffers,
     pub counts: Counts,
 }
 
-impl Comparison<'_> {
+impl<'a> Comparison<'a> {
+    pub fn new(name: String, sides: Sides<'a>, buffers: Buffers) -> Comparison<'a> {
+        Comparison {
+            name,
+            sides,
+            buffers,
+            counts: Counts::default(),
+        }
+    }
+
     /// Makes a call on the buffers, which then are as it left them.
-    pub fn call(&mut self, call: Call) -> Result<(), Box<Difference>> {
-        let model = Outcome::of(self.model, call, self.buffers.clone());
-        let library = Outcome::of(self.library, call, self.buffers.clone());
+    pub fn call(&mut self, call: Call) -> Compared {
+        let library = Outcome::of(self.sides.library, call, &self.buffers);
+        let model = Outcome::of(self.sides.model, call, &self.buffers);
         if let Some(text) = difference(&library, &model) {
             let buffers = self.buffers.clone();
             return Err(Box::new(Difference {

@@ -9,12 +9,10 @@ use program::column::Column;
 use program::prng::Prng;
 use program::{random, traps};
 
-use crate::calls::{Buffers, Call, Caller};
+use crate::calls::{Buffers, Call};
 use crate::columns::{far_number, junk, other_length};
-use crate::comparison::{Comparison, Difference};
+use crate::comparison::{Compared, Comparison, Sides};
 use crate::Counts;
-
-type Compared = Result<(), Box<Difference>>;
 
 /// A slice record, its place among those of the seed, and the n and m it was
 /// made for.
@@ -56,35 +54,20 @@ fn slice_records(file: &[u8]) -> Vec<(Vec<u8>, usize, usize)> {
 }
 
 /// Makes all calls on every record.
-pub fn compare_all(
-    subjects: &[Subject],
-    library: &Caller,
-    model: &Caller,
-    seed: u64,
-) -> Result<Counts, Box<Difference>> {
+pub fn compare_all(subjects: &[Subject], sides: Sides, seed: u64) -> Compared<Counts> {
     let mut counts = Counts::default();
     for subject in subjects {
-        counts += compare(subject, library, model, seed)?;
+        counts += compare(subject, sides, seed)?;
     }
     Ok(counts)
 }
 
-/// Makes all calls on a record, up to the first difference.
-pub fn compare(
-    subject: &Subject,
-    library: &Caller,
-    model: &Caller,
-    seed: u64,
-) -> Result<Counts, Box<Difference>> {
+/// Makes all calls on a record.
+pub fn compare(subject: &Subject, sides: Sides, seed: u64) -> Compared<Counts> {
     let number = subject.number;
     let mut rng = Prng::new(!seed ^ (number as u64) << 32);
-    let mut pair = Comparison {
-        name: format!("{seed}-record-{number}"),
-        library,
-        model,
-        buffers: reading(&mut rng, &subject.record),
-        counts: Counts::default(),
-    };
+    let buffers = reading(&mut rng, &subject.record);
+    let mut pair = Comparison::new(format!("{seed}-record-{number}"), sides, buffers);
     read_then_write(&mut pair, &mut rng, subject)?;
     write_then_read(&mut pair, &mut rng, subject)?;
     for _ in 0..2 {
@@ -186,17 +169,10 @@ fn read_and_write(pair: &mut Comparison, buffers: &Buffers, n: usize, m: usize) 
 
 /// One record with each n and m up to 66, and in buffers of each length up to
 /// twice the right one.
-pub fn compare_in_turn(library: &Caller, model: &Caller) -> Result<Counts, Box<Difference>> {
-    let column = Column::zeros(4, 6).pin(3, "A1", 256 + 5);
-    let record = slice_record(&column.slices[3]);
-    let right = Buffers::of_record(&record, &column.slices[3], &[7; SLICE_RECORD]);
-    let mut pair = Comparison {
-        name: "in-turn".to_string(),
-        library,
-        model,
-        buffers: right.clone(),
-        counts: Counts::default(),
-    };
+pub fn compare_in_turn(sides: Sides) -> Compared<Counts> {
+    let body = Column::zeros(4, 6).pin(3, "A1", 256 + 5).slices[3];
+    let right = Buffers::of_record(&slice_record(&body), &body, &[7; SLICE_RECORD]);
+    let mut pair = Comparison::new("in-turn".to_string(), sides, right.clone());
     for n in 0..=66 {
         for m in 0..=66 {
             read_and_write(&mut pair, &right, n, m)?;

@@ -1,7 +1,7 @@
 //! A wrapper of the library that does something else than hand calls on is caught by the comparison.
 
 use differential::calls::{by_library, Answer, Buffers, Call, Model};
-use differential::comparison::Difference;
+use differential::comparison::{Difference, Sides};
 use differential::{columns, records};
 use library::lent::Lent;
 use model::Workings;
@@ -143,7 +143,7 @@ fn found(broken: Broken, files: &[columns::Subject], some: &[records::Subject]) 
     let model = |call, buffers: &mut Buffers| model.call(call, buffers);
     let compared = [
         columns::compare_all(files, &broken, Workings::paper(), seed()),
-        records::compare_all(some, &broken, &model, seed()),
+        records::compare_all(some, Sides::new(&broken, &model), seed()),
     ];
     let differences = compared.into_iter().filter_map(Result::err);
     differences.map(|difference| *difference).collect()

@@ -5,6 +5,7 @@ mod wrong;
 
 use differential::calls::{by_library, Model};
 use differential::columns::{self, Subject};
+use differential::comparison::Sides;
 use differential::records;
 use model::Workings;
 use program::random::seed;
@@ -36,8 +37,8 @@ fn every_mutant_of_records_is_caught() {
     let mutants = wrong::records::all();
     let mut missed = vec![];
     for mutant in &mutants {
-        let model = |call, buffers: &mut _| (mutant.caller)(call, buffers);
-        match records::compare_all(&subjects, &by_library, &model, seed) {
+        let sides = Sides::new(&by_library, &mutant.caller);
+        match records::compare_all(&subjects, sides, seed) {
             Ok(_) => missed.push(&mutant.name),
             Err(difference) => println!("{}: {}", mutant.name, difference.text),
         }

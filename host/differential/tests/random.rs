@@ -1,7 +1,7 @@
 //! Random files, records and calls: the library's answers and buffers against the model's.
 
 use differential::calls::{by_library, Answer, Buffers, Call, Model};
-use differential::comparison::Difference;
+use differential::comparison::{Compared, Sides};
 use differential::saved::save;
 use differential::{columns, records, Counts};
 use library::{read_record, write_record};
@@ -12,12 +12,18 @@ use program::run::failing_folder;
 use program::traps;
 
 /// What was compared, where nothing differs.
-fn agreed(compared: Result<Counts, Box<Difference>>) -> Counts {
+fn agreed(compared: Compared<Counts>) -> Counts {
     match compared {
         Ok(counts) => counts,
         Err(difference) => panic!("{}", save(&difference, &failing_folder())),
     }
 }
+
+/// The library and the model of record calls.
+const SIDES: Sides = Sides {
+    library: &by_library,
+    model: &by_model,
+};
 
 fn by_model(call: Call, buffers: &mut Buffers) -> Answer {
     Model::of(buffers.column.file.get()).call(call, buffers)
@@ -50,12 +56,7 @@ fn calls_on_directed_files() {
 fn calls_on_records() {
     let seed = seed();
     let subjects = records::subjects(seed, times());
-    let counts = agreed(records::compare_all(
-        &subjects,
-        &by_library,
-        &by_model,
-        seed,
-    ));
+    let counts = agreed(records::compare_all(&subjects, SIDES, seed));
     println!("seed {seed}: {counts:?}, {} calls", counts.calls());
     let [done, one, two_to_seven @ .., eight, nine, ten, eleven] = counts.answers;
     assert_eq!([one, eight, nine], [0; 3]);
@@ -65,7 +66,7 @@ fn calls_on_records() {
 
 #[test]
 fn sizes_and_lengths_in_turn() {
-    let counts = agreed(records::compare_in_turn(&by_library, &by_model));
+    let counts = agreed(records::compare_in_turn(SIDES));
     println!("{counts:?}, {} calls", counts.calls());
 }
 

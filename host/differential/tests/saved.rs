@@ -6,7 +6,7 @@ use std::path::Path;
 use std::process::Command;
 
 use differential::calls::{by_library, Buffers, Call, Caller, Model};
-use differential::comparison::{replayed, Case, Difference};
+use differential::comparison::{replayed, Case, Difference, Sides};
 use differential::saved::{from_text, save, to_text};
 use differential::{columns, records};
 use library::lent::Lent;
@@ -25,11 +25,12 @@ fn repeats(difference: &Difference, wrong: &Caller) {
     let text = std::fs::read_to_string(&path).expect("the saved case");
     let case = from_text(&text).expect("a case");
     assert_eq!(case, difference.case);
-    let again = replayed(&case, &by_library, wrong);
+    let again = replayed(&case, Sides::new(&by_library, wrong));
     assert_eq!(again.difference.as_ref(), Some(&difference.text));
     let model = Model::of(case.buffers.column.file.get());
     let right = |call, buffers: &mut Buffers| model.call(call, buffers);
-    assert_eq!(replayed(&case, &by_library, &right).difference, None);
+    let right = replayed(&case, Sides::new(&by_library, &right));
+    assert_eq!(right.difference, None);
 }
 
 fn folder() -> &'static Path {
@@ -58,7 +59,8 @@ fn differences_on_records_repeat() {
     let subjects = records::subjects(seed, 1);
     let mutants = wrong::records::all().into_iter();
     for mutant in mutants.filter(|mutant| mutant.name.contains("writes")) {
-        let difference = records::compare_all(&subjects, &by_library, &mutant.caller, seed);
+        let sides = Sides::new(&by_library, &mutant.caller);
+        let difference = records::compare_all(&subjects, sides, seed);
         repeats(&difference.expect_err(&mutant.name), &mutant.caller);
     }
 }

@@ -57,87 +57,42 @@ fn a_refused_file_before_the_buffers() {
     refuse(&ALL, &looped, 9, 0, "a loop and bad buffers");
 }
 
+fn changed(bench: &Workbench, change: impl FnOnce(&mut Workbench)) -> Workbench {
+    let mut changed = bench.clone();
+    change(&mut changed);
+    changed
+}
+
 #[test]
 fn a_length_off_by_one() {
     let good = shifting();
     for length in [3, 5] {
         let contents = Lent::words(&vec![0; length]);
-        refuse(
-            &ALL,
-            &Workbench {
-                contents,
-                ..good.clone()
-            },
-            10,
-            0,
-            "contents",
-        );
+        let bench = changed(&good, |bench| bench.contents = contents);
+        refuse(&ALL, &bench, 10, 0, "contents");
     }
     for length in [0, 2] {
         let other = Lent::bytes(&vec![0; length]);
-        refuse(
-            &ALL,
-            &Workbench {
-                flops: other.clone(),
-                ..good.clone()
-            },
-            10,
-            0,
-            "flip-flops",
-        );
-        refuse(
-            &ALL[1..],
-            &Workbench {
-                inputs: other,
-                ..good.clone()
-            },
-            10,
-            0,
-            "inputs",
-        );
+        let bench = changed(&good, |bench| bench.flops = other.clone());
+        refuse(&ALL, &bench, 10, 0, "flip-flops");
+        let bench = changed(&good, |bench| bench.inputs = other);
+        refuse(&ALL[1..], &bench, 10, 0, "inputs");
     }
     for length in [31, 33] {
         let values = Lent::bytes(&vec![0; length]);
-        refuse(
-            &ALL[1..],
-            &Workbench {
-                values,
-                ..good.clone()
-            },
-            10,
-            0,
-            "values",
-        );
+        let bench = changed(&good, |bench| bench.values = values);
+        refuse(&ALL[1..], &bench, 10, 0, "values");
     }
 }
 
 #[test]
 fn a_byte_or_word_out_of_range() {
     let good = shifting();
-    let inputs = Lent::bytes(&[2]);
-    refuse(
-        &ALL[1..],
-        &Workbench {
-            inputs,
-            ..good.clone()
-        },
-        11,
-        0,
-        "an input byte 2",
-    );
-    let contents = Lent::words(&[0, 0, 0, 1 << 32]);
-    refuse(
-        &ALL[1..],
-        &Workbench {
-            contents,
-            ..good.clone()
-        },
-        11,
-        0,
-        "bit 32 in shift mode",
-    );
-    let mut stale = good.clone();
-    stale.values.lend()[31] = 2;
+    let bench = changed(&good, |bench| bench.inputs.lend()[0] = 2);
+    refuse(&ALL[1..], &bench, 11, 0, "an input byte 2");
+    let bench = changed(&good, |bench| bench.contents.lend()[D] = 1 << 32);
+    refuse(&ALL[1..], &bench, 11, 0, "bit 32 in shift mode");
+    let stale = changed(&good, |bench| bench.values.lend()[31] = 2);
     refuse(&[EDIT_INPUT, EDIT_TABLE], &stale, 11, 0, "a value byte 2");
     let mut filled = stale.clone();
     assert_eq!(

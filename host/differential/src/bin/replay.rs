@@ -2,9 +2,8 @@
 
 use std::process::ExitCode;
 
-use differential::calls::by_library;
-use differential::calls::{Buffers, Model};
-use differential::comparison::replayed;
+use differential::calls::{by_library, Buffers, Model};
+use differential::comparison::{replayed, Sides};
 use differential::saved::{from_text, name};
 
 fn main() -> ExitCode {
@@ -23,7 +22,7 @@ fn main() -> ExitCode {
     };
     let model = Model::of(case.buffers.column.file.get());
     let model = |call, buffers: &mut Buffers| model.call(call, buffers);
-    let replay = replayed(&case, &by_library, &model);
+    let replay = replayed(&case, Sides::new(&by_library, &model));
     println!("call:    {}", name(case.call));
     println!("library: {}", replay.library);
     println!("model:   {}", replay.model);

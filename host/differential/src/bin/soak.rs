@@ -10,6 +10,7 @@ use std::thread;
 use std::time::{Duration, Instant};
 
 use differential::calls::{by_library, Buffers, Model};
+use differential::comparison::Sides;
 use differential::saved::save;
 use differential::{columns, records, Counts};
 use program::compare::{report, Difference};
@@ -105,7 +106,7 @@ impl Soak {
             let subject = columns::Subject::new(number, file);
             judge(&subject, seed)?;
             let model = |call, buffers: &mut Buffers| subject.model.call(call, buffers);
-            let counts = columns::compare(&subject, &by_library, &model, seed);
+            let counts = columns::compare(&subject, Sides::new(&by_library, &model), seed);
             self.progress().counts += counts.map_err(saved)?;
         }
         let model = Model::of(&[]);
@@ -114,7 +115,7 @@ impl Soak {
             if self.is_over() {
                 return Ok(());
             }
-            let counts = records::compare(&subject, &by_library, &model, seed);
+            let counts = records::compare(&subject, Sides::new(&by_library, &model), seed);
             self.progress().counts += counts.map_err(saved)?;
         }
         Ok(())

@@ -13,12 +13,10 @@ pub struct Mutant {
 
 pub fn all() -> Vec<Mutant> {
     let mut mutants: Vec<Mutant> = of_a_slice().into_iter().map(by_rules).collect();
-    for (name, caller) in by_hand() {
-        mutants.push(Mutant {
-            name: name.to_string(),
-            caller: Box::new(caller),
-        });
-    }
+    mutants.extend(by_hand().into_iter().map(|(name, caller)| Mutant {
+        name: name.to_string(),
+        caller: Box::new(caller),
+    }));
     mutants
 }
 
@@ -91,142 +89,158 @@ fn refused(number: u8) -> Answer {
     Answer::Refused { number, place: 0 }
 }
 
-type Wrong = fn(Call, &mut Buffers) -> Answer;
+type Wrong = (&'static str, fn(Call, &mut Buffers) -> Answer);
 
-fn by_hand() -> Vec<(&'static str, Wrong)> {
-    [tests(), stores()].concat()
+fn by_hand() -> Vec<Wrong> {
+    let families = [
+        sizes_unjudged(),
+        lengths(),
+        rules(),
+        refused_stores(),
+        stores(),
+    ];
+    families.into_iter().flatten().collect()
 }
 
-/// Other refusals.
-fn tests() -> Vec<(&'static str, Wrong)> {
+/// The call with the nearest n and m that are in range.
+fn in_range(call: Call) -> Call {
+    let (n, m) = sizes(call);
+    with_sizes(call, n.clamp(1, 64), m.min(64))
+}
+
+fn sizes_unjudged() -> Vec<Wrong> {
     vec![
-        ("11 before 10", |call, buffers| {
-            let (n, m) = sizes(call);
-            match (1..=64).contains(&n) && m <= 64 {
-                true => rightly(call, buffers),
-                false => refused(11),
-            }
-        }),
-        ("11 after the rules of the record", |call, buffers| {
-            let (n, m) = sizes(call);
-            match rightly(
-                with_sizes(call, n.clamp(1, 64), m.min(64)),
-                &mut buffers.clone(),
-            ) {
-                Answer::Done => rightly(call, buffers),
-                refused => refused,
-            }
-        }),
         ("n not judged", |call, buffers| {
-            let (n, m) = sizes(call);
-            rightly(with_sizes(call, n.clamp(1, 64), m), buffers)
+            let (n, _) = sizes(in_range(call));
+            rightly(with_sizes(call, n, sizes(call).1), buffers)
         }),
         ("m not judged", |call, buffers| {
-            let (n, m) = sizes(call);
-            rightly(with_sizes(call, n, m.min(64)), buffers)
+            let (_, m) = sizes(in_range(call));
+            rightly(with_sizes(call, sizes(call).0, m), buffers)
         }),
         ("n and m of 32 bits", |call, buffers| {
             let (n, m) = sizes(call);
             let low = |number| number as u32 as usize;
             rightly(with_sizes(call, low(n), low(m)), buffers)
         }),
-        ("number 0 due", |call, buffers| {
-            let number = |bytes: &[u8], at: usize| bytes.get(at).copied().unwrap_or(0);
-            let number = match call {
-                Call::ReadRecord { .. } => number(buffers.record.get(), HEADER),
-                _ => number(buffers.body.get(), 0),
-            };
-            match rightly(call, &mut buffers.clone()) {
-                Answer::Done if number != 0 => refused(4),
-                _ => rightly(call, buffers),
+        ("11 before 10", |call, buffers| {
+            match in_range(call) == call {
+                true => rightly(call, buffers),
+                false => refused(11),
             }
         }),
         (
-            "a part longer than a record refused",
-            |call, buffers| match call {
-                Call::WriteRecord { .. } if buffers.part.get().len() > SLICE_RECORD => refused(10),
+            "11 after the rules of the record",
+            |call, buffers| match rightly(in_range(call), &mut buffers.clone()) {
+                Answer::Done => rightly(call, buffers),
+                refused => refused,
+            },
+        ),
+    ]
+}
+
+fn lengths() -> Vec<Wrong> {
+    vec![
+        ("a part longer than a record refused", |call, buffers| {
+            let longer = buffers.part.get().len() > SLICE_RECORD;
+            match call {
+                Call::WriteRecord { .. } if longer => refused(10),
                 _ => rightly(call, buffers),
-            },
-        ),
-        ("a record longer than a record taken", |call, buffers| {
-            if buffers.record.get().len() > SLICE_RECORD {
-                let mut seen = buffers.clone();
-                seen.record = seen.record.resized(SLICE_RECORD, 0);
-                let answer = rightly(call, &mut seen);
-                buffers.body = seen.body;
-                return answer;
             }
-            rightly(call, buffers)
         }),
-        (
-            "the record's place in its file",
-            |call, buffers| match rightly(call, buffers) {
-                Answer::Refused { number, .. } if number < 10 => {
-                    Answer::Refused { number, place: 5 }
-                }
-                answer => answer,
-            },
-        ),
+        ("a longer record taken", |call, buffers| {
+            if buffers.record.get().len() <= SLICE_RECORD {
+                return rightly(call, buffers);
+            }
+            let mut seen = buffers.clone();
+            seen.record = seen.record.resized(SLICE_RECORD, 0);
+            let answer = rightly(call, &mut seen);
+            buffers.body = seen.body;
+            answer
+        }),
         ("always refuses", |_, _| refused(10)),
     ]
 }
 
-/// Other cells written.
-fn stores() -> Vec<(&'static str, Wrong)> {
+fn rules() -> Vec<Wrong> {
+    vec![
+        ("number 0 due", |call, buffers| {
+            let number = match call {
+                Call::ReadRecord { .. } => buffers.record.get().get(HEADER + NUMBER),
+                _ => buffers.body.get().get(NUMBER),
+            };
+            let zero = number == Some(&0);
+            match rightly(call, &mut buffers.clone()) {
+                Answer::Done if !zero => refused(4),
+                _ => rightly(call, buffers),
+            }
+        }),
+        ("the record's place in a file", |call, buffers| {
+            let place = record_start(0) as u64;
+            match rightly(call, buffers) {
+                Answer::Refused { number, .. } if number < 10 => Answer::Refused { number, place },
+                answer => answer,
+            }
+        }),
+    ]
+}
+
+fn reads(call: Call) -> bool {
+    matches!(call, Call::ReadRecord { .. })
+}
+
+/// Cells written on refusal.
+fn refused_stores() -> Vec<Wrong> {
     vec![
         ("reader writes on refusal", |call, buffers| {
             let answer = rightly(call, buffers);
-            if matches!(call, Call::ReadRecord { .. }) {
+            if reads(call) {
                 finish(call, buffers);
             }
             answer
         }),
         ("writer writes on refusal", |call, buffers| {
             let answer = rightly(call, buffers);
-            if matches!(call, Call::WriteRecord { .. }) {
+            if !reads(call) {
                 finish(call, buffers);
             }
             answer
         }),
         ("reader fills with zeros on refusal", |call, buffers| {
             let answer = rightly(call, buffers);
-            if matches!(call, Call::ReadRecord { .. }) && answer != Answer::Done {
+            if reads(call) && answer != Answer::Done {
                 buffers.body.lend().fill(0);
             }
             answer
         }),
-        ("reader writes nothing", |call, buffers| match call {
-            Call::ReadRecord { .. } => rightly(call, &mut buffers.clone()),
-            _ => rightly(call, buffers),
+    ]
+}
+
+/// Other cells written than the paper says.
+fn stores() -> Vec<Wrong> {
+    vec![
+        ("reader writes nothing", |call, buffers| match reads(call) {
+            true => rightly(call, &mut buffers.clone()),
+            false => rightly(call, buffers),
         }),
-        ("writer writes nothing", |call, buffers| match call {
-            Call::WriteRecord { .. } => rightly(call, &mut buffers.clone()),
-            _ => rightly(call, buffers),
+        ("writer writes nothing", |call, buffers| match reads(call) {
+            true => rightly(call, buffers),
+            false => rightly(call, &mut buffers.clone()),
         }),
         ("writer writes the body alone", |call, buffers| {
-            let answer = rightly(call, &mut buffers.clone());
-            match (call, answer) {
-                (Call::WriteRecord { .. }, Answer::Done) => {
-                    let body = buffers.body.get().to_vec();
-                    buffers.part.lend()[..SLICE_BODY].copy_from_slice(&body);
-                    answer
-                }
-                _ => rightly(call, buffers),
-            }
-        }),
-        ("writer clears the rest of the part", |call, buffers| {
+            let before = buffers.part.clone();
             let answer = rightly(call, buffers);
-            if matches!(call, Call::WriteRecord { .. }) && answer == Answer::Done {
-                buffers.part.lend()[SLICE_RECORD..].fill(0);
+            if !reads(call) && answer == Answer::Done {
+                buffers.part = before;
+                let body = buffers.body.get();
+                buffers.part.lend()[..SLICE_BODY].copy_from_slice(body);
             }
             answer
         }),
-        ("writer moves the rest of the part up", |call, buffers| {
-            let before = buffers.part.get().to_vec();
+        ("writer clears the rest of the part", |call, buffers| {
             let answer = rightly(call, buffers);
-            if matches!(call, Call::WriteRecord { .. }) && answer == Answer::Done {
-                let rest = &mut buffers.part.lend()[SLICE_RECORD..];
-                rest.copy_from_slice(&before[..rest.len()]);
+            if !reads(call) && answer == Answer::Done {
+                buffers.part.lend()[SLICE_RECORD..].fill(0);
             }
             answer
         }),

@@ -12,8 +12,10 @@ pub fn all() -> Vec<WrongRules> {
         sizes(),
         choices(),
         combinations(),
+        stricter(),
         contents_bits(),
-        codes(),
+        constants_and_inputs(),
+        outputs(),
         pins(),
     ];
     families.into_iter().flatten().collect()
@@ -93,14 +95,28 @@ fn choices() -> Vec<WrongRules> {
     mutants
 }
 
-/// Parts of rule 6 dropped, and rules stricter than rule 6.
+/// Parts of rule 6 dropped.
 fn combinations() -> Vec<WrongRules> {
     let dropped = |part: Combination| {
         by_rules(format!("rule 6 without {part:?}"), |rules| {
             rules.combinations.retain(|&other| other != part);
         })
     };
-    let stricter = |name: &str, forbidden: fn(&[u8]) -> bool| {
+    let mut parts = Rules::paper().combinations;
+    parts.retain(|&part| part != Combination::StartBelowSliceZero);
+    let mut mutants: Vec<WrongRules> = parts.into_iter().map(dropped).collect();
+    // The decoder takes start 3 for the slice below, which slice 0 doesn't have.
+    mutants.push(by_bodies("carry start 3 is 0 in slice 0", |body, _, _| {
+        if Combination::StartBelowSliceZero.found_in(body) {
+            body[CARRY_START] = 0;
+        }
+    }));
+    mutants
+}
+
+/// Rules stricter than rule 6.
+fn stricter() -> Vec<WrongRules> {
+    let forbidding = |name: &str, forbidden: fn(&[u8]) -> bool| {
         by_bodies(name, move |body, _, _| {
             let listed = |choice: &Choice| body[choice.at] <= choice.greatest;
             if Rules::paper().choices.iter().all(listed) && forbidden(body) {
@@ -109,54 +125,43 @@ fn combinations() -> Vec<WrongRules> {
             }
         })
     };
-    let mut parts = Rules::paper().combinations;
-    parts.retain(|&part| part != Combination::StartBelowSliceZero);
-    let mut mutants: Vec<WrongRules> = parts.into_iter().map(dropped).collect();
-    mutants.push(by_bodies("carry start 3 is 0 in slice 0", |body, _, _| {
-        if Combination::StartBelowSliceZero.found_in(body) {
-            body[CARRY_START] = 0;
-        }
-    }));
-    mutants.extend([
-        stricter("SLICEM without memory or shift refused", |body| {
-            body[KIND] == 1 && body[MODE..][..4] == [0; 4]
+    vec![
+        forbidding("SLICEM without memory or shift refused", |body| {
+            body[KIND] == 1 && modes(body) == [0; 4]
         }),
-        stricter("memory beside logic refused", |body| {
-            let modes = &body[MODE..][..4];
-            modes.contains(&1) && modes.contains(&0)
+        forbidding("memory beside logic refused", |body| {
+            modes(body).contains(&1) && modes(body).contains(&0)
         }),
-        stricter("shift beside logic refused", |body| {
-            let modes = &body[MODE..][..4];
-            modes.contains(&2) && modes.contains(&0)
+        forbidding("shift beside logic refused", |body| {
+            modes(body).contains(&2) && modes(body).contains(&0)
         }),
-        stricter("shift without D refused", |body| {
-            let modes = &body[MODE..][..4];
-            modes.contains(&2) && modes[D] != 2
+        forbidding("shift without D refused", |body| {
+            modes(body).contains(&2) && modes(body)[D] != 2
         }),
-        stricter("cascade at C refused", |body| body[SHIFT_DATA + C] == 1),
-        stricter("bits 32 to 63 refused in logic", |body| {
-            let high = |letter: usize| contents(body, letter) >> 32 != 0;
-            LETTERS
-                .into_iter()
-                .any(|letter| body[MODE + letter] == 0 && high(letter))
+        forbidding("cascade at C refused", |body| body[SHIFT_DATA + C] == 1),
+        forbidding("bits 32 to 63 refused in logic", |body| {
+            any_in_mode(body, 0, |word| word >> 32 != 0)
         }),
-        stricter("bits 32 to 63 refused in memory", |body| {
-            let high = |letter: usize| contents(body, letter) >> 32 != 0;
-            LETTERS
-                .into_iter()
-                .any(|letter| body[MODE + letter] == 1 && high(letter))
+        forbidding("bits 32 to 63 refused in memory", |body| {
+            any_in_mode(body, 1, |word| word >> 32 != 0)
         }),
-        stricter("bit 31 refused in shift", |body| {
-            let bit_31 = |letter: usize| contents(body, letter) >> 31 & 1 == 1;
-            LETTERS
-                .into_iter()
-                .any(|letter| body[MODE + letter] == 2 && bit_31(letter))
+        forbidding("bit 31 refused in shift", |body| {
+            any_in_mode(body, 2, |word| word >> 31 & 1 == 1)
         }),
-        stricter("carry start 3 refused everywhere", |body| {
+        forbidding("carry start 3 refused everywhere", |body| {
             body[CARRY_START] == 3
         }),
-    ]);
-    mutants
+    ]
+}
+
+fn modes(body: &[u8]) -> &[u8] {
+    &body[MODE..MODE + 4]
+}
+
+/// Whether a letter in this mode has such contents.
+fn any_in_mode(body: &[u8], mode: u8, test: fn(u64) -> bool) -> bool {
+    let mut letters = LETTERS.into_iter();
+    letters.any(|letter| modes(body)[letter] == mode && test(contents(body, letter)))
 }
 
 /// Each of bits 32 to 63 of each letter unjudged.
@@ -174,12 +179,15 @@ fn contents_bits() -> Vec<WrongRules> {
     mutants
 }
 
-/// Codes that don't exist taken for constant 0, codes that exist refused.
-fn codes() -> Vec<WrongRules> {
-    let decoder = |name: &str, driver: fn(u16, usize, usize) -> Option<Driver>| {
-        by_rules(name, |rules| rules.driver = driver)
-    };
-    const NONE: Option<Driver> = Some(Driver::Constant(false));
+/// What a code that doesn't exist is taken for.
+const NONE: Option<Driver> = Some(Driver::Constant(false));
+
+fn decoder(name: &str, driver: fn(u16, usize, usize) -> Option<Driver>) -> WrongRules {
+    by_rules(name, |rules| rules.driver = driver)
+}
+
+/// Codes below 4096 taken or refused.
+fn constants_and_inputs() -> Vec<WrongRules> {
     vec![
         decoder("code 2 exists", |code, n, m| match code {
             2 => NONE,
@@ -205,6 +213,12 @@ fn codes() -> Vec<WrongRules> {
         decoder("inputs up to code 4095 exist", |code, n, _| {
             driver(code, n, 3840)
         }),
+    ]
+}
+
+/// Codes from 4096 on taken or refused.
+fn outputs() -> Vec<WrongRules> {
+    vec![
         decoder("slice n exists", |code, n, m| {
             driver(code, n, m).or(driver(code, n + 1, m).and(NONE))
         }),
