@@ -264,7 +264,7 @@ fn spoil(rng: &mut Prng, design: &Design, bench: &mut Workbench) {
     }
 }
 
-/// Another length, near the right one or not.
+/// A length that is hardly ever the right one, near it or not.
 pub fn other_length(rng: &mut Prng, length: usize) -> usize {
     match rng.below(5) {
         0 => length.saturating_sub(1),

@@ -4,6 +4,7 @@
 pub mod calls;
 pub mod columns;
 pub mod comparison;
+pub mod mutants;
 pub mod records;
 pub mod saved;
 

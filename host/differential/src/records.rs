@@ -158,13 +158,13 @@ fn spoil(rng: &mut Prng, buffers: &mut Buffers) {
     *lent = lent.resized(length, 0);
 }
 
-/// Reads and writes, both from the same buffers.
+/// Reads the record over other bytes, and writes the body.
 fn read_and_write(pair: &mut Comparison, buffers: &Buffers, n: usize, m: usize) -> Compared {
-    for call in [Call::ReadRecord { n, m }, Call::WriteRecord { n, m }] {
-        pair.buffers = buffers.clone();
-        pair.call(call)?;
-    }
-    Ok(())
+    pair.buffers = buffers.clone();
+    pair.buffers.body.lend().fill(7);
+    pair.call(Call::ReadRecord { n, m })?;
+    pair.buffers = buffers.clone();
+    pair.call(Call::WriteRecord { n, m })
 }
 
 /// One record with each n and m up to 66, and in buffers of each length up to

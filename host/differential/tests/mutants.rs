@@ -1,12 +1,11 @@
 //! The comparison can fail: every model that makes one mistake is told from the
 //! library by it.
 
-mod wrong;
-
 use differential::calls::{by_library, Model};
 use differential::columns::{self, Subject};
 use differential::comparison::Sides;
-use differential::records;
+use differential::mutants::records::{others, readers, writers, Mutant};
+use differential::{mutants, records};
 use model::Workings;
 use program::random::seed;
 
@@ -15,7 +14,7 @@ use program::random::seed;
 fn every_mutant_of_running_is_caught() {
     let seed = seed();
     let subjects = columns::subjects(seed, 1);
-    let mutants = wrong::all();
+    let mutants = mutants::of_columns();
     let mut missed = vec![];
     for (name, change) in &mutants {
         let mut workings = Workings::paper();
@@ -30,11 +29,9 @@ fn every_mutant_of_running_is_caught() {
 }
 
 /// The same for the record calls.
-#[test]
-fn every_mutant_of_records_is_caught() {
+fn all_are_caught(mutants: Vec<Mutant>) {
     let seed = seed();
     let subjects = records::subjects(seed, 1);
-    let mutants = wrong::records::all();
     let mut missed = vec![];
     for mutant in &mutants {
         let sides = Sides::new(&by_library, &mutant.caller);
@@ -45,6 +42,21 @@ fn every_mutant_of_records_is_caught() {
     }
     println!("{} mutants", mutants.len());
     assert!(missed.is_empty(), "not caught: {missed:?}");
+}
+
+#[test]
+fn every_wrong_reader_is_caught() {
+    all_are_caught(readers());
+}
+
+#[test]
+fn every_wrong_writer_is_caught() {
+    all_are_caught(writers());
+}
+
+#[test]
+fn every_other_mutant_of_records_is_caught() {
+    all_are_caught(others());
 }
 
 /// A difference in the place alone is found.

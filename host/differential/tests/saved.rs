@@ -1,14 +1,12 @@
 //! A difference is saved as a case that repeats it.
 
-mod wrong;
-
 use std::path::Path;
 use std::process::Command;
 
 use differential::calls::{by_library, Buffers, Call, Caller, Model};
 use differential::comparison::{replayed, Case, Difference, Sides};
 use differential::saved::{from_text, save, to_text};
-use differential::{columns, records};
+use differential::{columns, mutants, records};
 use library::lent::Lent;
 use library::workbench::Workbench;
 use model::Workings;
@@ -42,7 +40,7 @@ fn folder() -> &'static Path {
 fn differences_on_files_repeat() {
     let seed = seed();
     let subjects = columns::subjects(seed, 1);
-    for (name, change) in wrong::all() {
+    for (name, change) in mutants::of_columns() {
         let mut workings = Workings::paper();
         change(&mut workings);
         let difference = columns::compare_all(&subjects, &by_library, workings, seed);
@@ -57,8 +55,7 @@ fn differences_on_files_repeat() {
 fn differences_on_records_repeat() {
     let seed = seed();
     let subjects = records::subjects(seed, 1);
-    let mutants = wrong::records::all().into_iter();
-    for mutant in mutants.filter(|mutant| mutant.name.contains("writes")) {
+    for mutant in mutants::records::others() {
         let sides = Sides::new(&by_library, &mutant.caller);
         let difference = records::compare_all(&subjects, sides, seed);
         repeats(&difference.expect_err(&mutant.name), &mutant.caller);

@@ -23,8 +23,9 @@ pub fn failing_folder() -> PathBuf {
     repository().join("target/host")
 }
 
-fn repository() -> PathBuf {
-    Path::new(env!("CARGO_MANIFEST_DIR")).join("../..")
+fn repository() -> &'static Path {
+    let folder = Path::new(env!("CARGO_MANIFEST_DIR"));
+    folder.ancestors().nth(2).expect("host/program is in it")
 }
 
 /// The program's line for a file that is written at once.

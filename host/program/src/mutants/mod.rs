@@ -4,7 +4,7 @@
 mod loops;
 mod reads;
 mod records;
-mod slice;
+pub mod slice;
 
 use model::design::{Design, Signal, Source, SIGNALS};
 use model::layout::*;
@@ -45,14 +45,10 @@ impl WrongRules {
 
 /// All mutants.
 pub fn all() -> Vec<Mutant> {
-    let of_slices = of_a_slice().into_iter().map(judging).collect();
+    let of_slices = slice::of_headers().into_iter().chain(slice::of_bodies());
+    let of_slices = of_slices.map(judging).collect();
     let families = [records::all(), of_slices, reads::all(), loops::all()];
     families.into_iter().flatten().collect()
-}
-
-/// Those about one slice record.
-pub fn of_a_slice() -> Vec<WrongRules> {
-    slice::all()
 }
 
 fn mutant(name: impl Into<String>, judge: impl Fn(&[u8]) -> Verdict + 'static) -> Mutant {

@@ -6,9 +6,9 @@ use model::layout::*;
 use model::rules::{Choice, Combination, Test};
 use model::Rules;
 
-pub fn all() -> Vec<WrongRules> {
+pub fn of_bodies() -> Vec<WrongRules> {
     let families = [
-        orders(),
+        body_orders(),
         sizes(),
         choices(),
         combinations(),
@@ -42,22 +42,29 @@ fn by_bodies(
     }
 }
 
-/// The tests of a whole record in another order.
-fn orders() -> Vec<WrongRules> {
-    let moved = |name: &str, test: Test, to: usize| {
-        by_rules(name, |rules| {
-            rules.order.retain(|&other| other != test);
-            rules.order.insert(to, test);
-        })
-    };
+fn moved(name: &str, test: Test, to: usize) -> WrongRules {
+    by_rules(name, |rules| {
+        rules.order.retain(|&other| other != test);
+        rules.order.insert(to, test);
+    })
+}
+
+/// The tests of a header in another order.
+pub fn of_headers() -> Vec<WrongRules> {
     vec![
         moved("TagDue tested before TagKnown", Test::TagDue, 1),
         moved("Length tested before TagDue", Test::Length, 2),
+        moved("TagDue tested with the slice number", Test::TagDue, 4),
+        moved("Length tested before the tag", Test::Length, 1),
+    ]
+}
+
+/// The tests of a body in another order.
+fn body_orders() -> Vec<WrongRules> {
+    vec![
         moved("Choices tested before SliceNumber", Test::Choices, 5),
         moved("Combinations tested before Choices", Test::Combinations, 6),
         moved("Drivers tested before Combinations", Test::Drivers, 7),
-        moved("TagDue tested with the slice number", Test::TagDue, 4),
-        moved("Length tested before the tag", Test::Length, 1),
         moved("SliceNumber tested last", Test::SliceNumber, 8),
         moved("Drivers tested before the choices", Test::Drivers, 6),
     ]

@@ -1,9 +1,11 @@
 //! Mistakes in the record calls.
 
-use differential::calls::{Answer, Buffers, Call, Caller, Model};
+use std::sync::LazyLock;
+
+use crate::calls::{Answer, Buffers, Call, Caller, Model};
 use model::layout::*;
 use model::records::slice_record;
-use program::mutants::{of_a_slice, WrongRules};
+use program::mutants::{slice, WrongRules};
 
 /// A wrong model of the record calls.
 pub struct Mutant {
@@ -11,44 +13,78 @@ pub struct Mutant {
     pub caller: Box<Caller<'static>>,
 }
 
-pub fn all() -> Vec<Mutant> {
-    let mut mutants: Vec<Mutant> = of_a_slice().into_iter().map(by_rules).collect();
-    mutants.extend(by_hand().into_iter().map(|(name, caller)| Mutant {
-        name: name.to_string(),
-        caller: Box::new(caller),
-    }));
-    mutants
+pub fn readers() -> Vec<Mutant> {
+    let wrong = slice::of_headers().into_iter().chain(slice::of_bodies());
+    wrong.map(wrong_reader).collect()
 }
 
-/// A model that tests records in a wrong way.
-fn by_rules(wrong: WrongRules) -> Mutant {
+/// A writer makes the header itself.
+pub fn writers() -> Vec<Mutant> {
+    slice::of_bodies().into_iter().map(wrong_writer).collect()
+}
+
+/// Those that are not about the rules of a record.
+pub fn others() -> Vec<Mutant> {
+    let mutant = |(name, caller): Wrong| Mutant {
+        name: name.to_string(),
+        caller: Box::new(caller),
+    };
+    by_hand().into_iter().map(mutant).collect()
+}
+
+/// A model whose reader tests records in a wrong way.
+fn wrong_reader(wrong: WrongRules) -> Mutant {
+    let name = format!("reader: {}", wrong.name);
+    let wrong = wrongly(wrong);
+    let caller = move |call, buffers: &mut Buffers| match reads(call) {
+        true => wrong(call, buffers),
+        false => rightly(call, buffers),
+    };
+    Mutant {
+        name,
+        caller: Box::new(caller),
+    }
+}
+
+/// The same for the writer.
+fn wrong_writer(wrong: WrongRules) -> Mutant {
+    let name = format!("writer: {}", wrong.name);
+    let wrong = wrongly(wrong);
+    let caller = move |call, buffers: &mut Buffers| match reads(call) {
+        true => rightly(call, buffers),
+        false => wrong(call, buffers),
+    };
+    Mutant {
+        name,
+        caller: Box::new(caller),
+    }
+}
+
+/// Makes a call, with the record tested in a wrong way.
+fn wrongly(wrong: WrongRules) -> impl Fn(Call, &mut Buffers) -> Answer {
     let mut model = Model::of(&[]);
     model.rules = wrong.rules.clone();
-    let name = wrong.name.clone();
-    let caller = move |call, buffers: &mut Buffers| {
+    move |call, buffers| {
         let mut seen = buffers.clone();
         let (n, m) = sizes(call);
-        match call {
-            Call::ReadRecord { .. } if seen.record.get().len() == SLICE_RECORD => {
-                wrong.change(seen.record.lend(), n, m)
-            }
-            Call::WriteRecord { .. } if seen.body.get().len() == SLICE_BODY => {
-                let mut record = slice_record(seen.body.get());
-                wrong.change(&mut record, n, m);
-                seen.body.lend().copy_from_slice(&record[HEADER..]);
-            }
-            _ => {}
+        if reads(call) && seen.record.get().len() == SLICE_RECORD {
+            wrong.change(seen.record.lend(), n, m);
+        }
+        if !reads(call) && seen.body.get().len() == SLICE_BODY {
+            let mut record = slice_record(seen.body.get());
+            wrong.change(&mut record, n, m);
+            seen.body.lend().copy_from_slice(&record[HEADER..]);
         }
         let answer = model.call(call, &mut seen);
         if answer == Answer::Done {
             finish(call, buffers);
         }
         answer
-    };
-    Mutant {
-        name,
-        caller: Box::new(caller),
     }
+}
+
+fn reads(call: Call) -> bool {
+    matches!(call, Call::ReadRecord { .. })
 }
 
 /// The n and m of a record call.
@@ -68,7 +104,8 @@ fn with_sizes(call: Call, n: usize, m: usize) -> Call {
 }
 
 fn rightly(call: Call, buffers: &mut Buffers) -> Answer {
-    Model::of(&[]).call(call, buffers)
+    static MODEL: LazyLock<Model> = LazyLock::new(|| Model::of(&[]));
+    MODEL.call(call, buffers)
 }
 
 /// Leaves what a call does that isn't refused, as far as the lengths allow.
@@ -183,10 +220,6 @@ fn rules() -> Vec<Wrong> {
             }
         }),
     ]
-}
-
-fn reads(call: Call) -> bool {
-    matches!(call, Call::ReadRecord { .. })
 }
 
 /// Cells written on refusal.

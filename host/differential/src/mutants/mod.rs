@@ -1,5 +1,6 @@
-//! Mistakes in running a column, each of which looks reasonable. None makes a
-//! signal read what the paper's doesn't depend on, since that could loop.
+//! Wrong models, each with one mistake that looks reasonable: in running a
+//! column here, in the record calls in `records`. None makes a signal read what
+//! the paper's doesn't depend on, since that could loop.
 
 mod edges;
 mod edits;
@@ -11,7 +12,7 @@ use model::Workings;
 /// A mistake's name, and how it changes the paper's workings.
 pub type Mutant = (&'static str, fn(&mut Workings));
 
-pub fn all() -> Vec<Mutant> {
+pub fn of_columns() -> Vec<Mutant> {
     let families = [signals::all(), edges::all(), edits::all(), tests()];
     families.into_iter().flatten().collect()
 }
