@@ -75,28 +75,24 @@ pub fn from_text(text: &str) -> Result<Case, String> {
 }
 
 fn parse_call(text: &str) -> Option<Call> {
-    let words: Vec<&str> = text.split(' ').collect();
-    Some(match words[..] {
-        ["judge"] => Call::Judge,
-        ["power_up"] => Call::PowerUp,
-        ["settle"] => Call::Settle,
-        ["clock"] => Call::Clock,
-        ["edit_input", input, byte] => Call::EditInput {
-            input: input.parse().ok()?,
-            byte: byte.parse().ok()?,
-        },
-        ["edit_table", table, word] => Call::EditTable {
-            table: table.parse().ok()?,
-            word: word.parse().ok()?,
-        },
-        ["read_record", n, m] => Call::ReadRecord {
-            n: n.parse().ok()?,
-            m: m.parse().ok()?,
-        },
-        ["write_record", n, m] => Call::WriteRecord {
-            n: n.parse().ok()?,
-            m: m.parse().ok()?,
-        },
+    let mut words = text.split(' ');
+    let name = words.next()?;
+    let numbers: Option<Vec<usize>> = words.map(|word| word.parse().ok()).collect();
+    Some(match (name, &numbers?[..]) {
+        ("judge", []) => Call::Judge,
+        ("power_up", []) => Call::PowerUp,
+        ("settle", []) => Call::Settle,
+        ("clock", []) => Call::Clock,
+        ("edit_input", &[input, byte]) => {
+            let byte = u8::try_from(byte).ok()?;
+            Call::EditInput { input, byte }
+        }
+        ("edit_table", &[table, word]) => {
+            let word = word as u64;
+            Call::EditTable { table, word }
+        }
+        ("read_record", &[n, m]) => Call::ReadRecord { n, m },
+        ("write_record", &[n, m]) => Call::WriteRecord { n, m },
         _ => return None,
     })
 }

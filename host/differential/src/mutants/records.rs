@@ -13,14 +13,20 @@ pub struct Mutant {
     pub caller: Box<Caller<'static>>,
 }
 
+/// Readers that test records in a wrong way.
 pub fn readers() -> Vec<Mutant> {
     let wrong = slice::of_headers().into_iter().chain(slice::of_bodies());
-    wrong.map(wrong_reader).collect()
+    wrong
+        .map(|wrong| by_rules("reader", reads, wrong))
+        .collect()
 }
 
-/// A writer makes the header itself.
+/// The same for writers, which make the header themselves.
 pub fn writers() -> Vec<Mutant> {
-    slice::of_bodies().into_iter().map(wrong_writer).collect()
+    let wrong = slice::of_bodies().into_iter();
+    wrong
+        .map(|wrong| by_rules("writer", |call| !reads(call), wrong))
+        .collect()
 }
 
 /// Those that are not about the rules of a record.
@@ -32,27 +38,13 @@ pub fn others() -> Vec<Mutant> {
     by_hand().into_iter().map(mutant).collect()
 }
 
-/// A model whose reader tests records in a wrong way.
-fn wrong_reader(wrong: WrongRules) -> Mutant {
-    let name = format!("reader: {}", wrong.name);
+/// A model that tests the records of some calls in a wrong way.
+fn by_rules(who: &str, concerned: fn(Call) -> bool, wrong: WrongRules) -> Mutant {
+    let name = format!("{who}: {}", wrong.name);
     let wrong = wrongly(wrong);
-    let caller = move |call, buffers: &mut Buffers| match reads(call) {
+    let caller = move |call, buffers: &mut Buffers| match concerned(call) {
         true => wrong(call, buffers),
         false => rightly(call, buffers),
-    };
-    Mutant {
-        name,
-        caller: Box::new(caller),
-    }
-}
-
-/// The same for the writer.
-fn wrong_writer(wrong: WrongRules) -> Mutant {
-    let name = format!("writer: {}", wrong.name);
-    let wrong = wrongly(wrong);
-    let caller = move |call, buffers: &mut Buffers| match reads(call) {
-        true => rightly(call, buffers),
-        false => wrong(call, buffers),
     };
     Mutant {
         name,
