@@ -30,8 +30,8 @@ struct Soak {
 struct Progress {
     seeds: usize,
     counts: Counts,
-    /// What differs, from the worker that found it first.
-    failure: Option<String>,
+    /// What differs; workers that find something at the same time both tell it.
+    failures: Vec<String>,
 }
 
 fn main() -> ExitCode {
@@ -52,14 +52,11 @@ fn main() -> ExitCode {
         soak.report();
     });
     println!("{}", soak.line());
-    let failure = soak.progress().failure.take();
-    match failure {
-        Some(failure) => {
-            println!("{failure}");
-            ExitCode::FAILURE
-        }
-        None => ExitCode::SUCCESS,
+    let failures = &soak.progress().failures;
+    for failure in failures {
+        println!("{failure}");
     }
+    ExitCode::from(u8::from(!failures.is_empty()))
 }
 
 fn minutes(arguments: &[String]) -> Option<f64> {
@@ -78,7 +75,7 @@ impl Soak {
     }
 
     fn is_over(&self) -> bool {
-        self.start.elapsed() >= self.length || self.progress().failure.is_some()
+        self.start.elapsed() >= self.length || !self.progress().failures.is_empty()
     }
 
     /// Takes seed after seed. A panic is a difference that wasn't told well.
@@ -91,8 +88,7 @@ impl Soak {
                 Ok(Err(failure)) => Some(failure),
                 Err(_) => Some(format!("panicked at seed {seed}")),
             };
-            let mut progress = self.progress();
-            progress.failure = progress.failure.take().or(failure);
+            self.progress().failures.extend(failure);
         }
     }
 
@@ -145,9 +141,9 @@ impl Soak {
         let progress = self.progress();
         let counts = &progress.counts;
         let minutes = self.start.elapsed().as_secs_f64() / 60.0;
-        let differences = match progress.failure {
-            Some(_) => "a difference",
-            None => "no difference",
+        let differences = match progress.failures.is_empty() {
+            true => "no difference",
+            false => "a difference",
         };
         format!(
             "{minutes:.1} minutes, {} seeds, {} files, {} records, {} calls, {differences}",
