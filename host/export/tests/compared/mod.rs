@@ -3,7 +3,7 @@
 use std::path::Path;
 
 use export::{iverilog, verilog, Netlist, Stimulus};
-use library::bench::Bench;
+use library::workbench::Workbench;
 use model::design::SIGNALS;
 use model::{Design, Simulator, Workings};
 use program::prng::Prng;
@@ -94,7 +94,7 @@ impl Subject {
 
 /// The values before each edge, by the library.
 fn library_rows(file: &[u8], inputs: &[Vec<u8>]) -> Rows {
-    let mut bench = Bench::up(file.to_vec());
+    let mut bench = Workbench::up(file.to_vec());
     let row = |inputs: &Vec<u8>| {
         bench.inputs.lend().copy_from_slice(inputs);
         assert_eq!(bench.clock(), Ok(()));
