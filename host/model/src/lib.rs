@@ -1,5 +1,5 @@
 //! An independent second judge and simulator of slice files, written from the
-//! paper alone (papers/01-scope.md) and plain rather than fast. The proved
+//! paper alone and plain rather than fast. The proved
 //! program and library are compared with it.
 
 pub mod check;
