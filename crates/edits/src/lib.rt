@@ -1,10 +1,8 @@
 // The calls on a slice file and lent buffers that change it as it runs: edit an input, edit a table's contents.
 ghost use mathlib.Core.Path.{_≡_};
 ghost use Rattle.column.specs.Clock.{stateOf};
-ghost use Rattle.column.specs.Judge.{Judged};
 ghost use Rattle.simulator.specs.Calls.{Ready};
 ghost use Rattle.edits.specs.Edits.{InputEdited, TableEdited};
-use column::SLICE_NUMBERS;
 use column::TABLE_LIMIT;
 use column::Verdict;
 use netlist::SIGNAL_LIMIT;
@@ -29,7 +27,7 @@ fn edit_input_accepted(
     input: usize,
     byte: u8,
 ) -> Answer
-    requires { ⌜ Judged (now file) (Verdict.Accepted n m) × Ready (now file) n (now net) (now order) ⌝ }
+    requires { ⌜ Ready (now file) n m (now net) (now order) ⌝ }
     ensures { λ r. ⌜ InputEdited (now (file .entry)) (stateOf (now (contents .entry)) (now (flops .entry))) input byte (now (inputs .entry)) (now (inputs .exit)) (now (values .entry)) (now (values .exit)) r ⌝ }
 {
     let bad = (m <= input) | (1 < byte);
@@ -73,14 +71,12 @@ pub fn edit_input(
     let Verdict::Accepted { n, m } = v else {
         return simulator::refusal(v);
     };
-    let numbers = SLICE_NUMBERS * n;
-    let signals = 32 * n;
     edit_input_accepted(
         file,
         n,
         m,
-        &net[..numbers],
-        &order[..signals],
+        &net,
+        &order,
         contents,
         flops,
         inputs,
@@ -104,7 +100,7 @@ fn edit_table_accepted(
     table: usize,
     word: u64,
 ) -> Answer
-    requires { ⌜ Judged (now file) (Verdict.Accepted n m) × Ready (now file) n (now net) (now order) ⌝ }
+    requires { ⌜ Ready (now file) n m (now net) (now order) ⌝ }
     ensures { λ r. ⌜ TableEdited (now (file .entry)) (now (contents .entry)) (now (contents .exit)) (now (flops .entry)) table word (now (inputs .entry)) (now (values .entry)) (now (values .exit)) r ⌝ }
 {
     let bad = buffers::bad_table(file, n, m, table, word);
@@ -148,14 +144,12 @@ pub fn edit_table(
     let Verdict::Accepted { n, m } = v else {
         return simulator::refusal(v);
     };
-    let numbers = SLICE_NUMBERS * n;
-    let signals = 32 * n;
     edit_table_accepted(
         file,
         n,
         m,
-        &net[..numbers],
-        &order[..signals],
+        &net,
+        &order,
         contents,
         flops,
         inputs,

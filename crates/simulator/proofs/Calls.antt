@@ -4,7 +4,6 @@ use mathlib.Core.List.{List}
 use Prim.Native.Nat.{ℕ, zero, suc, _≤_}
 use native.Mathlib.Omega.{arith}
 use lib.ListN.{length, take}
-use lib.Seq.{length-take-le}
 use Rattle.netlist.specs.Graph.{Ordered}
 use Rattle.netlist.specs.Settle.{readsIn}
 use Rattle.netlist.specs.Table.{signalLimit, gateOf}
@@ -26,35 +25,21 @@ pub refused-by : (file : List ℕ) (own : ℕ → ℕ → ℕ) {Kept : Type 0} {
 refused-by file own j zero e ne kept = absurd (ne refl)
 refused-by file own j (suc k) e ne kept = refused j (sym e) kept
 
--- the order is one of the netlist in the table
-pub ready-order : (file : List ℕ) (n : ℕ) (net order : List ℕ) → Ready file n net order → Ordered (readsIn (gateOf net n)) (signalCount n) order
-ready-order file n net order r = ordered-agree (gateAt file) (gateOf net n) (signalCount n) (agree-sym (r .lowered)) order (r .ordered)
-
--- what loading an accepted file leaves: the fronts of the two buffers
-pub record Front (file : List ℕ) (n m : ℕ) (net order : List ℕ) : Type 0 where
-  pub judged : Judged file (Accepted n m)
-  pub few : n ≤ sliceLimit
-  pub numbers-fit : tableLength n ≤ length net
-  pub signals-fit : signalCount n ≤ length order
-  pub numbers : length (take (tableLength n) net) ≡ tableLength n
-  pub signals : length (take (signalCount n) order) ≡ signalCount n
-  pub ready : Ready file n (take (tableLength n) net) (take (signalCount n) order)
-
-pub loaded-front : (file net order : List ℕ) (v : Verdict) {n m : ℕ} → v ≡ Accepted n m → Loaded file net order v → length net ≡ tableLimit → length order ≡ signalLimit
-    → Front file n m net order
-loaded-front file net order v {n} {m} e l sized placed =
+-- a file loaded into buffers of their full lengths, and accepted, is ready
+pub loaded-ready : (file net order : List ℕ) (v : Verdict) {n m : ℕ} → v ≡ Accepted n m → Loaded file net order v → length net ≡ tableLimit → length order ≡ signalLimit
+    → Ready file n m net order
+loaded-ready file net order v {n} {m} e l sized placed =
     let w : Loaded file net order (Accepted n m) = subst (Loaded file net order) e l in
     let few : n ≤ sliceLimit = sound-file file (accepted-sound file (w .0)) .slices-fit in
-    let numbers : length (take (tableLength n) net) ≡ tableLength n = length-take-le (tableLength n) net (omega arith) in
-    record {
-      judged = w .0;
-      few = few;
-      numbers-fit = omega arith;
-      signals-fit = omega arith;
-      numbers = numbers;
-      signals = length-take-le (signalCount n) order (omega arith);
-      ready = record { sized = numbers; lowered = w .1; ordered = w .2 };
-    }
+    record { loaded = w; net-fits = omega arith; order-fits = omega arith }
+
+-- what a walk along the order asks for
+pub ready-walk : (file : List ℕ) (n m : ℕ) (net order values : List ℕ) → Ready file n m net order → length values ≡ signalCount n
+    → ((signalCount n ≤ signalLimit) × (tableLength n ≤ length net) × (signalCount n ≤ length order) × (length values ≡ signalCount n))
+    × Ordered (readsIn (gateOf (take (tableLength n) net) n)) (signalCount n) (take (signalCount n) order)
+ready-walk file n m net order values r size =
+    let few = sound-file file (accepted-sound file (r .loaded .0)) .slices-fit in
+    ((omega arith, r .net-fits, r .order-fits, size), ordered-agree (gateAt file) (gateOf (take (tableLength n) net) n) (signalCount n) (agree-sym (r .loaded .1)) (take (signalCount n) order) (r .loaded .2))
 
 pub loaded-refused : (file net order : List ℕ) (v : Verdict) {k p : ℕ} → v ≡ VerdictRefused k p → Loaded file net order v → Judged file (VerdictRefused k p)
 loaded-refused file net order v e l = subst (Loaded file net order) e l

@@ -7,7 +7,6 @@ ghost use Rattle.column.specs.Clock.{stateOf, powerUp, clocked};
 ghost use Rattle.column.specs.Judge.{Judged};
 ghost use Rattle.simulator.specs.Calls.{refusalOf, Ready, PoweredUp, SettleCalled, ClockCalled};
 use column::Checked;
-use column::SLICE_NUMBERS;
 use column::TABLE_LIMIT;
 use column::Verdict;
 use netlist::SIGNAL_LIMIT;
@@ -94,7 +93,7 @@ fn settle_accepted(
     inputs: &[u8],
     values: &mut [u8],
 ) -> Answer
-    requires { ⌜ Judged (now file) (Verdict.Accepted n m) × Ready (now file) n (now net) (now order) ⌝ }
+    requires { ⌜ Ready (now file) n m (now net) (now order) ⌝ }
     ensures { λ r. ⌜ SettleCalled (now (file .entry)) (stateOf (now (contents .entry)) (now (flops .entry))) (now (inputs .entry)) (now (values .entry)) (now (values .exit)) r ⌝ }
 {
     let own = buffers::settle_refusal(file, n, m, contents, flops, inputs, values);
@@ -124,14 +123,12 @@ pub fn settle(
     let Verdict::Accepted { n, m } = v else {
         return refusal(v);
     };
-    let numbers = SLICE_NUMBERS * n;
-    let signals = 32 * n;
     settle_accepted(
         file,
         n,
         m,
-        &net[..numbers],
-        &order[..signals],
+        &net,
+        &order,
         contents,
         flops,
         inputs,
@@ -173,7 +170,7 @@ fn clock_accepted(
     inputs: &[u8],
     values: &mut [u8],
 ) -> Answer
-    requires { ⌜ Judged (now file) (Verdict.Accepted n m) × Ready (now file) n (now net) (now order) ⌝ }
+    requires { ⌜ Ready (now file) n m (now net) (now order) ⌝ }
     ensures { λ r. ⌜ ClockCalled (now (file .entry)) (stateOf (now (contents .entry)) (now (flops .entry))) (stateOf (now (contents .exit)) (now (flops .exit))) (now (inputs .entry)) (now (values .entry)) (now (values .exit)) r ⌝ }
 {
     let number = buffers::settle_refusal(file, n, m, contents, flops, inputs, values);
@@ -201,14 +198,12 @@ pub fn clock(
     let Verdict::Accepted { n, m } = v else {
         return refusal(v);
     };
-    let numbers = SLICE_NUMBERS * n;
-    let signals = 32 * n;
     clock_accepted(
         file,
         n,
         m,
-        &net[..numbers],
-        &order[..signals],
+        &net,
+        &order,
         contents,
         flops,
         inputs,

@@ -2,7 +2,7 @@
 ghost use mathlib.Core.Path.{_≡_};
 ghost use mathlib.Core.Bool.{_||_};
 ghost use Prim.Native.Nat.{_+_, _*_, _≤_, _<_};
-ghost use lib.ListN.{length};
+ghost use lib.ListN.{length, take};
 ghost use Rattle.netlist.specs.Rule.{env, readsOf};
 ghost use Rattle.netlist.specs.Graph.{Ordered};
 ghost use Rattle.netlist.specs.Settle.{readsIn, Settled, isMarked, anyMarked, Edited};
@@ -10,7 +10,7 @@ ghost use Rattle.netlist.specs.Table.{signalLimit, sourceOf, gateOf};
 ghost use Rattle.walks.specs.Marked.{sourceReached, anyReached, touchesMarked};
 
 // Fills the value table: each signal in the order's turn is set to its rule.
-pub fn settle_by(
+fn settle_along(
     table: &[u16],
     n: usize,
     order: &[u16],
@@ -30,6 +30,33 @@ pub fn settle_by(
         values[x] = value;
         i += 1;
     }
+}
+
+// Fills the value table with the settled signals. The gate table of n slices and an order stand at the front of `net` and `order`.
+pub fn settle_by(
+    net: &[u16],
+    n: usize,
+    order: &[u16],
+    contents: &[u64],
+    flops: &[u8],
+    inputs: &[u8],
+    values: &mut [u8],
+)
+    requires { ⌜ (32 * n ≤ signalLimit) × (224 * n ≤ length (now net)) × (32 * n ≤ length (now order)) × (length (now values) ≡ 32 * n) ⌝ }
+    requires { ⌜ Ordered (readsIn (gateOf (take (224 * n) (now net)) n)) (32 * n) (take (32 * n) (now order)) ⌝ }
+    ensures { λ _. ⌜ Settled (gateOf (take (224 * n) (now (net .entry))) n) (32 * n) (env (now (contents .entry)) (now (flops .entry)) (now (inputs .entry))) (now (values .exit)) ⌝ }
+{
+    let numbers = 224 * n;
+    let signals = 32 * n;
+    settle_along(
+        &net[..numbers],
+        n,
+        &order[..signals],
+        contents,
+        flops,
+        inputs,
+        values,
+    );
 }
 
 // A mark that is set; past the end none is.
@@ -99,8 +126,8 @@ fn gate_reached(
     code_reached(table[at + 1], changed, marks)
 }
 
-// Recomputes what depends on a change of the marked inputs and tables, and nothing else. The inputs and the contents are those after the change.
-pub fn edit_by(
+// Recomputes what the marked inputs and tables reach, in the order's turn, and nothing else.
+fn edit_along(
     table: &[u16],
     n: usize,
     order: &[u16],
@@ -128,4 +155,36 @@ pub fn edit_by(
         }
         i += 1;
     }
+}
+
+// Recomputes what depends on a change of the marked inputs and tables, and nothing else. The inputs and the contents are those after the change; the gate
+// table of n slices and an order stand at the front of `net` and `order`.
+pub fn edit_by(
+    net: &[u16],
+    n: usize,
+    order: &[u16],
+    contents: &[u64],
+    flops: &[u8],
+    inputs: &[u8],
+    values: &mut [u8],
+    changed: &[u8],
+    edited: &[u8],
+)
+    requires { ⌜ (32 * n ≤ signalLimit) × (224 * n ≤ length (now net)) × (32 * n ≤ length (now order)) × (length (now values) ≡ 32 * n) ⌝ }
+    requires { ⌜ Ordered (readsIn (gateOf (take (224 * n) (now net)) n)) (32 * n) (take (32 * n) (now order)) ⌝ }
+    ensures { λ _. ⌜ Edited (gateOf (take (224 * n) (now (net .entry))) n) (32 * n) (env (now (contents .entry)) (now (flops .entry)) (now (inputs .entry))) (λ x. touchesMarked (now (changed .entry)) (now (edited .entry)) (gateOf (take (224 * n) (now (net .entry))) n x)) (now (values .entry)) (now (values .exit)) ⌝ }
+{
+    let numbers = 224 * n;
+    let signals = 32 * n;
+    edit_along(
+        &net[..numbers],
+        n,
+        &order[..signals],
+        contents,
+        flops,
+        inputs,
+        values,
+        changed,
+        edited,
+    );
 }

@@ -13,19 +13,19 @@ use Rattle.column.proofs.Verdicts.{accepted-sound}
 use Rattle.buffers.specs.Buffers.{editRefusal, badInput}
 use Rattle.column.specs.Clock.{stateOf}
 use Rattle.simulator.specs.Calls.{done}
-use Rattle.simulator.proofs.Calls.{refused-by, ready-order}
+use Rattle.simulator.proofs.Calls.{refused-by, ready-walk}
 use Rattle.edits.proofs.Marks.{edited-file}
 use Rattle.buffers.proofs.Lengths.{Lengths, edit-lengths, edit-argument}
 use Rattle.edits.proofs.edit_input_accepted.Statement.{statement}
 use Rattle.edits.proofs.edit_input_accepted.Tie as tie
 
 fine : (c : tie.Start) → SoundFile (c .args .file .now) (c .args .n) (c .args .m)
-fine c = sound-file (c .args .file .now) (accepted-sound (c .args .file .now) (c .pre .0))
+fine c = sound-file (c .args .file .now) (accepted-sound (c .args .file .now) (c .pre .loaded .0))
 
 edit-refusal-requires : tie.Need-edit-refusal-requires
 edit-refusal-requires c κs =
     let b = c .before .before .before .before .before .before .before .before .before in
-    accepted-sound (b .args .file .now) (b .pre .0)
+    accepted-sound (b .args .file .now) (b .pre .loaded .0)
 
 same-length : tie.Need-same-length
 same-length c = search needs
@@ -36,7 +36,7 @@ same-length-2 c = search needs
 returns : tie.Need-returns
 returns c =
     let b = c .before .before .before .before .before .before .before .before .before .before .before in
-    refused-by (b .args .file .now) _ (b .pre .0) _ (c .before .edit-refusal .ensures) (c .if1 .taken) (refl, refl)
+    refused-by (b .args .file .now) _ (b .pre .loaded .0) _ (c .before .edit-refusal .ensures) (c .if1 .taken) (refl, refl)
 
 -- the edit is not refused, so the buffers have their lengths, and the input is there
 module _ (c : tie.Else1) where
@@ -71,7 +71,7 @@ edit-by-requires : tie.Need-edit-by-requires
 edit-by-requires c κs =
     let e = c .before .before .before .before in
     let b = start e in
-    ((omega (arith, fine b .slices-fit), b .pre .1 .sized, fit e .values), ready-order (b .args .file .now) (b .args .n) (b .args .net .now) (b .args .order .now) (b .pre .1))
+    ready-walk (b .args .file .now) (b .args .n) (b .args .m) (b .args .net .now) (b .args .order .now) (b .args .values .now) (b .pre) (fit e .values)
 
 same-length-3 : tie.Need-same-length-3
 same-length-3 c = search needs
@@ -84,8 +84,8 @@ returns-2 c =
     let k = c .before .before in
     let e = k .before .before .before .before .before in
     let b = start e in
-    done (b .pre .0) (none e)
-    (refl, edited-file (b .args .file .now) (fine b) (b .args .net .now) (b .args .order .now) (b .pre .1) _ (touchesInput (b .args .input)) (marks-one-input 64 1 (b .args .input) (omega (arith, there e, fine b .inputs-fit))) (k .edit-by .ensures))
+    done (b .pre .loaded .0) (none e)
+    (refl, edited-file (b .args .file .now) (b .args .n) (b .args .m) (b .args .net .now) (b .args .order .now) (b .pre) _ (touchesInput (b .args .input)) (marks-one-input 64 1 (b .args .input) (omega (arith, there e, fine b .inputs-fit))) (k .edit-by .ensures))
 
 pub edit-input-accepted-spec : {M : Type 1} → statement M
 edit-input-accepted-spec =

@@ -13,24 +13,24 @@ use Rattle.column.proofs.Verdicts.{accepted-sound}
 use Rattle.buffers.specs.Buffers.{editRefusal, badTable, badWord}
 use Rattle.column.specs.Clock.{stateOf}
 use Rattle.simulator.specs.Calls.{done}
-use Rattle.simulator.proofs.Calls.{refused-by, ready-order}
+use Rattle.simulator.proofs.Calls.{refused-by, ready-walk}
 use Rattle.edits.proofs.Marks.{edited-file}
 use Rattle.buffers.proofs.Lengths.{Lengths, edit-lengths, edit-argument}
 use Rattle.edits.proofs.edit_table_accepted.Statement.{statement}
 use Rattle.edits.proofs.edit_table_accepted.Tie as tie
 
 fine : (c : tie.Start) → SoundFile (c .args .file .now) (c .args .n) (c .args .m)
-fine c = sound-file (c .args .file .now) (accepted-sound (c .args .file .now) (c .pre .0))
+fine c = sound-file (c .args .file .now) (accepted-sound (c .args .file .now) (c .pre .loaded .0))
 
 bad-table-requires : tie.Need-bad-table-requires
 bad-table-requires c κs =
     let b = c .before .before .before .before .before .before .before in
-    accepted-sound (b .args .file .now) (b .pre .0)
+    accepted-sound (b .args .file .now) (b .pre .loaded .0)
 
 edit-refusal-requires : tie.Need-edit-refusal-requires
 edit-refusal-requires c κs =
     let b = c .before .before .before .before .before .before .before .before .before .before in
-    accepted-sound (b .args .file .now) (b .pre .0)
+    accepted-sound (b .args .file .now) (b .pre .loaded .0)
 
 same-length : tie.Need-same-length
 same-length c = search needs
@@ -42,7 +42,7 @@ returns : tie.Need-returns
 returns c =
     let t = c .before .before .before .before in
     let b = t .before .before .before .before .before .before .before .before in
-    refused-by (b .args .file .now) _ (b .pre .0) _ (rw (t .bad-table .ensures) at (c .before .edit-refusal .ensures)) (c .if1 .taken) (refl, refl)
+    refused-by (b .args .file .now) _ (b .pre .loaded .0) _ (rw (t .bad-table .ensures) at (c .before .edit-refusal .ensures)) (c .if1 .taken) (refl, refl)
 
 -- the edit is not refused, so the buffers have their lengths, and the table is there
 module _ (c : tie.Else1) where
@@ -80,7 +80,7 @@ edit-by-requires : tie.Need-edit-by-requires
 edit-by-requires c κs =
     let e = c .before .before .before .before in
     let b = start e in
-    ((omega (arith, fine b .slices-fit), b .pre .1 .sized, fit e .values), ready-order (b .args .file .now) (b .args .n) (b .args .net .now) (b .args .order .now) (b .pre .1))
+    ready-walk (b .args .file .now) (b .args .n) (b .args .m) (b .args .net .now) (b .args .order .now) (b .args .values .now) (b .pre) (fit e .values)
 
 same-length-3 : tie.Need-same-length-3
 same-length-3 c = search needs
@@ -93,8 +93,8 @@ returns-2 c =
     let k = c .before .before in
     let e = k .before .before .before .before .before in
     let b = start e in
-    done (b .pre .0) (none e)
-    (refl, edited-file (b .args .file .now) (fine b) (b .args .net .now) (b .args .order .now) (b .pre .1) _ (touchesTable (b .args .table)) (marks-one-table 1 256 (b .args .table) (omega (arith, there e, fine b .slices-fit))) (k .edit-by .ensures))
+    done (b .pre .loaded .0) (none e)
+    (refl, edited-file (b .args .file .now) (b .args .n) (b .args .m) (b .args .net .now) (b .args .order .now) (b .pre) _ (touchesTable (b .args .table)) (marks-one-table 1 256 (b .args .table) (omega (arith, there e, fine b .slices-fit))) (k .edit-by .ensures))
 
 pub edit-table-accepted-spec : {M : Type 1} → statement M
 edit-table-accepted-spec =

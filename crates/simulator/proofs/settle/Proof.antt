@@ -1,9 +1,8 @@
 -- `simulator::settle` meets its contract: the judge's refusal is handed on. Assumes nothing.
-use mathlib.Core.Path.{refl, sym}
-use native.Mathlib.Omega.{arith}
+use mathlib.Core.Path.{refl}
 use borrow.Author.Needs.{needs}
 use Rattle.simulator.specs.Calls.{judged}
-use Rattle.simulator.proofs.Calls.{Front, loaded-front, loaded-refused}
+use Rattle.simulator.proofs.Calls.{loaded-ready, loaded-refused}
 use Rattle.simulator.proofs.settle.Statement.{statement}
 use Rattle.simulator.proofs.settle.Tie as tie
 
@@ -31,33 +30,17 @@ returns c =
     let l = c .before .before .before .before .before .load in
     rw (c .refusal .ensures, e) (judged (loaded-refused _ (l .last .1 .0) (l .last .1 .1 .0) (l .result) e (l .ensures)) refl)
 
-front : (c : tie.After-v)
-    → let l = c .before .before .before .before in
-    Front (l .before .before .before .before .before .before .before .before .args .file .now) (c .v .given .0 .0) (c .v .given .0 .1 .0) (l .load .last .1 .0) (l .load .last .1 .1 .0)
-front c =
-    let l = c .before .before .before .before .load in
-    loaded-front _ (l .last .1 .0) (l .last .1 .1 .0) (l .result) (c .v .given .1) (l .ensures) (l .kept .1 .0) (l .kept .1 .1 .0)
-
-mul-numbers : tie.Need-mul-numbers
-mul-numbers c = omega (arith, front (c .before) .few)
-
-mul-signals : tie.Need-mul-signals
-mul-signals c = omega (arith, front (c .before) .few)
-
-array-share-prefix-net : tie.Need-array-share-prefix-net
-array-share-prefix-net c = front (c .before) .numbers-fit
-
 slice-aggregate-settle-accepted : tie.Need-slice-aggregate-settle-accepted
-slice-aggregate-settle-accepted c = sym (front (c .before .before) .numbers)
-
-array-share-prefix-order : tie.Need-array-share-prefix-order
-array-share-prefix-order c = front (c .before .before) .signals-fit
+slice-aggregate-settle-accepted c = search needs
 
 slice-aggregate-settle-accepted-2 : tie.Need-slice-aggregate-settle-accepted-2
-slice-aggregate-settle-accepted-2 c = sym (front (c .before .before .before) .signals)
+slice-aggregate-settle-accepted-2 c = search needs
 
 settle-accepted-requires : tie.Need-settle-accepted-requires
-settle-accepted-requires c κs = let f = front (c .before .before .before .before) in (f .judged, f .ready)
+settle-accepted-requires c κs =
+    let v = c .before .before .before .before in
+    let l = v .before .before .before .before .load in
+    loaded-ready _ (l .last .1 .0) (l .last .1 .1 .0) (l .result) (v .v .given .1) (l .ensures) (l .kept .1 .0) (l .kept .1 .1 .0)
 
 same-length : tie.Need-same-length
 same-length c = search needs
@@ -76,11 +59,7 @@ settle-spec =
     enum-told
     refusal-requires
     returns
-    mul-numbers
-    mul-signals
-    array-share-prefix-net
     slice-aggregate-settle-accepted
-    array-share-prefix-order
     slice-aggregate-settle-accepted-2
     settle-accepted-requires
     same-length

@@ -1,27 +1,28 @@
 -- `simulator::settle_accepted` meets its contract. Assumes nothing.
 use mathlib.Core.Path.{_≡_, _∙_, refl, sym}
-use native.Mathlib.Omega.{arith}
 use borrow.Author.Needs.{needs}
+use lib.ListN.{take}
 use Rattle.netlist.specs.Table.{gateOf}
 use Rattle.netlist.proofs.Agree.{settled-agree}
+use Rattle.column.specs.Compile.{tableLength}
 use Rattle.column.specs.File.{signalCount, gateAt}
 use Rattle.column.proofs.SoundLaws.{SoundFile, sound-file}
 use Rattle.column.proofs.Verdicts.{accepted-sound}
 use Rattle.buffers.specs.Buffers.{settleRefusal}
 use Rattle.column.specs.Clock.{stateOf}
 use Rattle.simulator.specs.Calls.{done}
-use Rattle.simulator.proofs.Calls.{refused-by, ready-order}
+use Rattle.simulator.proofs.Calls.{refused-by, ready-walk}
 use Rattle.buffers.proofs.Lengths.{settle-lengths}
 use Rattle.simulator.proofs.settle_accepted.Statement.{statement}
 use Rattle.simulator.proofs.settle_accepted.Tie as tie
 
 fine : (c : tie.Start) → SoundFile (c .args .file .now) (c .args .n) (c .args .m)
-fine c = sound-file (c .args .file .now) (accepted-sound (c .args .file .now) (c .pre .0))
+fine c = sound-file (c .args .file .now) (accepted-sound (c .args .file .now) (c .pre .loaded .0))
 
 settle-refusal-requires : tie.Need-settle-refusal-requires
 settle-refusal-requires c κs =
     let b = c .before .before .before .before .before .before .before .before in
-    accepted-sound (b .args .file .now) (b .pre .0)
+    accepted-sound (b .args .file .now) (b .pre .loaded .0)
 
 same-length : tie.Need-same-length
 same-length c = search needs
@@ -30,7 +31,7 @@ returns : tie.Need-returns
 returns c =
     let k = c .before in
     let b = k .before .before .before .before .before .before .before .before .before in
-    refused-by (b .args .file .now) _ (b .pre .0) _ (k .settle-refusal .ensures) (c .if1 .taken) refl
+    refused-by (b .args .file .now) _ (b .pre .loaded .0) _ (k .settle-refusal .ensures) (c .if1 .taken) refl
 
 none : (c : tie.Else1) → let a = c .before .before .before .before .before .before .before .before .before .before .args in settleRefusal (a .file .now) (stateOf (a .contents .now) (a .flops .now)) (a .inputs .now) (a .values .now) (a .n) (a .m) ≡ 0
 none c = sym (c .before .settle-refusal .ensures) ∙ c .if1 .left
@@ -40,7 +41,7 @@ settle-by-requires c κs =
     let b = c .before .before .before .before .before .before .before .before .before .before .before in
     let a = b .args in
     let l = settle-lengths (a .file .now) (stateOf (a .contents .now) (a .flops .now)) (a .inputs .now) (a .values .now) (a .n) (a .m) (none (c .before)) in
-    ((omega (arith, fine b .slices-fit), b .pre .1 .sized, l .values), ready-order (a .file .now) (a .n) (a .net .now) (a .order .now) (b .pre .1))
+    ready-walk (a .file .now) (a .n) (a .m) (a .net .now) (a .order .now) (a .values .now) (b .pre) (l .values)
 
 same-length-2 : tie.Need-same-length-2
 same-length-2 c = search needs
@@ -51,8 +52,8 @@ returns-2 c =
     let e = k .before .before in
     let b = e .before .before .before .before .before .before .before .before .before .before in
     let a = b .args in
-    done (b .pre .0) (none e)
-    (rw (fine b .count) (settled-agree (gateOf (a .net .now) (a .n)) (gateAt (a .file .now)) (signalCount (a .n)) (b .pre .1 .lowered) _ _ (k .settle-by .ensures)))
+    done (b .pre .loaded .0) (none e)
+    (rw (fine b .count) (settled-agree (gateOf (take (tableLength (a .n)) (a .net .now)) (a .n)) (gateAt (a .file .now)) (signalCount (a .n)) (b .pre .loaded .1) _ _ (k .settle-by .ensures)))
 
 pub settle-accepted-spec : {M : Type 1} → statement M
 settle-accepted-spec = tie.close (tie.spec settle-refusal-requires same-length returns settle-by-requires same-length-2 returns-2)
