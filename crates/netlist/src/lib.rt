@@ -79,12 +79,38 @@ fn store_numbers(
     table[at + 6] = p6;
 }
 
+// Signal x's head and the codes of six sources.
+fn store_row(
+    table: &mut [u16],
+    x: usize,
+    head: usize,
+    p1: Source,
+    p2: Source,
+    p3: Source,
+    p4: Source,
+    p5: Source,
+    p6: Source,
+)
+    requires { ⌜ (head < 65536) × (7 * x + 7 ≤ length (now table)) ⌝ }
+    requires { ⌜ (codeOf p1 < 65536) × (codeOf p2 < 65536) × (codeOf p3 < 65536) × (codeOf p4 < 65536) × (codeOf p5 < 65536) × (codeOf p6 < 65536) ⌝ }
+    ensures { λ _. ⌜ now (table .exit) ≡ sets (now (table .entry)) (7 * x) (head ∷ codeOf p1 ∷ codeOf p2 ∷ codeOf p3 ∷ codeOf p4 ∷ codeOf p5 ∷ codeOf p6 ∷ []) ⌝ }
+{
+    let a = source_code(p1);
+    let b = source_code(p2);
+    let c = source_code(p3);
+    let d = source_code(p4);
+    let e = source_code(p5);
+    let f = source_code(p6);
+    store_numbers(table, x, head, a, b, c, d, e, f);
+}
+
 // Puts signal x's gate into the gate table of n slices.
 pub fn store_gate(table: &mut [u16], n: usize, x: usize, gate: Gate)
     requires { ⌜ (32 * n ≤ signalLimit) × (x < 32 * n) × (length (now table) ≡ 224 * n) ⌝ }
     requires { ⌜ GateFits n inputRoom gate ⌝ }
     ensures { λ _. ⌜ now (table .exit) ≡ storeGate (now (table .entry)) n x gate ⌝ }
 {
+    let none = Source::Constant(false);
     match gate {
         Gate::Lut {
             table: t,
@@ -95,34 +121,22 @@ pub fn store_gate(table: &mut [u16], n: usize, x: usize, gate: Gate)
             p5,
             p6,
         } => {
-            let a = source_code(p1);
-            let b = source_code(p2);
-            let c = source_code(p3);
-            let d = source_code(p4);
-            let e = source_code(p5);
-            let f = source_code(p6);
-            store_numbers(table, x, t, a, b, c, d, e, f);
+            store_row(table, x, t, p1, p2, p3, p4, p5, p6);
         }
         Gate::ZeroOf(t) => {
-            store_numbers(table, x, 4 * n + t, 0, 0, 0, 0, 0, 0);
+            store_row(table, x, 4 * n + t, none, none, none, none, none, none);
         }
         Gate::Select { select, one, zero } => {
-            let a = source_code(select);
-            let b = source_code(one);
-            let c = source_code(zero);
-            store_numbers(table, x, 16 * n, a, b, c, 0, 0, 0);
+            store_row(table, x, 16 * n, select, one, zero, none, none, none);
         }
-        Gate::Xor(p, q) => {
-            let a = source_code(p);
-            let b = source_code(q);
-            store_numbers(table, x, 16 * n + 1, a, b, 0, 0, 0, 0);
+        Gate::Xor(a, b) => {
+            store_row(table, x, 16 * n + 1, a, b, none, none, none, none);
         }
-        Gate::Same(p) => {
-            let a = source_code(p);
-            store_numbers(table, x, 16 * n + 2, a, 0, 0, 0, 0, 0);
+        Gate::Same(a) => {
+            store_row(table, x, 16 * n + 2, a, none, none, none, none, none);
         }
         Gate::Stored(slot) => {
-            store_numbers(table, x, 8 * n + slot, 0, 0, 0, 0, 0, 0);
+            store_row(table, x, 8 * n + slot, none, none, none, none, none, none);
         }
     }
 }
