@@ -1,5 +1,5 @@
 -- The start of the search, the opening of a signal, the passing of a root, and what the search says at its end. Assumes nothing.
-use Prim.Native.Nat.{ℕ, _+_, _≤_, _<_, zero-le}
+use Prim.Native.Nat.{ℕ, suc, _+_, _≤_, _<_, zero-le}
 use mathlib.Core.Path.{_≡_, refl, sym, _∙_}
 use mathlib.Core.Logic.{inl, inr}
 use mathlib.Core.List.{List}
@@ -10,6 +10,8 @@ use Rattle.netlist.specs.declared.Gate.{Gate}
 use Rattle.netlist.specs.Graph.{WellFormed, Before}
 use Rattle.netlist.specs.Settle.{readsIn}
 use Rattle.netlist.specs.Table.{signalLimit}
+use Rattle.levels.specs.declared.Read.the-variants.{Signal}
+use Rattle.levels.specs.Reading.{readAt}
 use Rattle.levels.specs.Components.{On, Closed, Open, Passed, Components, left, Above, Least}
 use Rattle.levels.proofs.Tally.{same-or-not, stored, in-list, tally-less, tally-le, tally-all, tally-none, room-less}
 use Rattle.levels.proofs.Components.{below-or-not, listed-keep, Went, inside, stack-on, on-seen, closed-done, empty, depth-le, count-le}
@@ -20,13 +22,13 @@ module _ {g : ℕ → Gate} {N : ℕ} {marks pos stack heads path order : List �
     pub len-lt : len < N
     len-lt = omega (arith, s .placed .fits, tally-less 0 marks y 1 (inside s y h) new (λ p. omega arith))
 
-    pub push : next < N → Above g stack len y
-        → Went s (set marks y 1) (set pos y len) (set stack len y) (set heads count len) (set path depth y) order next (depth + 1) (len + 1) (count + 1) done best
-    push l into = (
+    pub push : (m : ℕ) → 0 < m → m < 8 → ((i z : ℕ) → suc i < m → readAt g y i ≡ Signal z → ⊥) → next < N → Above g stack len y
+        → Went s (set marks y m) (set pos y len) (set stack len y) (set heads count len) (set path depth y) order next (depth + 1) (len + 1) (count + 1) done best
+    push m some few none l into = (
       record {
         bounded = s .bounded;
         small = s .small;
-        sized = length-set marks y 1 ∙ s .sized;
+        sized = length-set marks y m ∙ s .sized;
         pos-sized = length-set pos y len ∙ s .pos-sized;
         stack-sized = length-set stack len y ∙ s .stack-sized;
         heads-sized = length-set heads count len ∙ s .heads-sized;
@@ -34,16 +36,16 @@ module _ {g : ℕ → Gate} {N : ℕ} {marks pos stack heads path order : List �
         order-sized = s .order-sized;
         next-le = s .next-le;
         ended = λ w. absurd (omega arith);
-        low = λ z. stored marks y 1 z hm (λ _ q. omega arith) (λ _ q. rw q (s .low z));
-        started = λ z k. stored marks y 1 z hm (λ _ q. omega arith) (λ _ q. rw q (s .started z k));
+        low = λ z. stored marks y m z hm (λ _ q. omega arith) (λ _ q. rw q (s .low z));
+        started = λ z k. stored marks y m z hm (λ _ q. omega arith) (λ _ q. rw q (s .started z k));
         placed = record {
           at = λ i k. stored stack len y i hs
               (λ p q. rw (q, p) pos-y)
               (λ p q. rw (q, pos-old (stack-on s i (omega arith))) (s .placed .at i (omega arith)));
           seen = λ i k. stored stack len y i hs
-              (λ p q. rw (q, getD-set-same marks y 1 0 hm) (omega arith))
+              (λ p q. rw (q, getD-set-same marks y m 0 hm) (omega arith))
               (λ p q. rw q (seen-old _ (s .placed .seen i (omega arith))));
-          fits = omega (arith, s .placed .fits, tally-less 0 marks y 1 hm new (λ p. omega arith));
+          fits = omega (arith, s .placed .fits, tally-less 0 marks y m hm new (λ p. omega arith));
         };
         headed = record {
           low = λ k m. stored heads count len k hh (λ p q. omega (arith, count-le s)) (λ p q. rw q (s .headed .low k (omega arith)));
@@ -76,7 +78,7 @@ module _ {g : ℕ → Gate} {N : ℕ} {marks pos stack heads path order : List �
               stored path depth y j hp
               (λ p′ q′. rw (q, q′, pos-y, pos-old o) (o .below))
               (λ p′ q′. rw (q, q′, pos-old o, pos-old (s .pathed .on j (omega arith))) (s .pathed .sorted i j k (omega arith))));
-          named = λ x w. stored marks y 1 x hm
+          named = λ x w. stored marks y m x hm
               (λ p q. rw p last-y)
               (λ p q. longer x (s .pathed .named x (record { seen = rw q at (w .seen); left = rw q at (w .left) })));
         };
@@ -88,16 +90,16 @@ module _ {g : ℕ → Gate} {N : ℕ} {marks pos stack heads path order : List �
             (λ p′ q′. rw (q, q′) (inr (into i (omega arith))))
             (λ p′ q′. rw (q, q′) (s .reach i j (omega arith) (omega arith)
             (λ k m c. rw (head-old k m) at (w k (omega arith) (rw (head-old k m) c))))));
-        looked = λ x i z o k b r. stored marks y 1 x hm
-            (λ p q. absurd (omega arith))
+        looked = λ x i z o k b r. stored marks y m x hm
+            (λ p q. absurd (none i z (omega arith) (rw p at r)))
             (λ p q. let o′ = on-back o p in kept o′ (s .looked x i z o′ (rw q at k) b r));
         closed = λ x z c r. closed-new (s .closed x z (closed-back c) r);
         judged = λ x c d. s .judged x (closed-back c) d;
         best-le = s .best-le;
         best-loop = s .best-loop;
-        listed = listed-keep g N marks order done best best y 1 hm (λ w. omega arith) (λ w. omega arith) (λ w. w) (s .listed);
+        listed = listed-keep g N marks order done best best y m hm (λ w. omega arith) (λ w. omega arith) (λ w. w) (s .listed);
       },
-      omega (arith, room-less marks y 1 hm (omega arith) (omega arith)),
+      omega (arith, room-less marks y m hm (omega arith) (omega arith)),
     )
       where
         hm : y < length marks
@@ -112,8 +114,8 @@ module _ {g : ℕ → Gate} {N : ℕ} {marks pos stack heads path order : List �
         hp : depth < length path
         hp = omega (arith, len-lt, depth-le s, s .path-sized)
 
-        mark-y : getD (set marks y 1) y 0 ≡ 1
-        mark-y = getD-set-same marks y 1 0 hm
+        mark-y : getD (set marks y m) y 0 ≡ m
+        mark-y = getD-set-same marks y m 0 hm
 
         pos-y : getD (set pos y len) y 0 ≡ len
         pos-y = getD-set-same pos y len 0 (omega (arith, s .pos-sized))
@@ -124,12 +126,12 @@ module _ {g : ℕ → Gate} {N : ℕ} {marks pos stack heads path order : List �
         head-old : (k : ℕ) → k < count → getD (set heads count len) k 0 ≡ getD heads k 0
         head-old k m = getD-set-other heads count k len 0 (λ e. omega arith)
 
-        seen-old : (z : ℕ) → 0 < getD marks z 0 → 0 < getD (set marks y 1) z 0
-        seen-old z k = stored marks y 1 z hm (λ _ q. omega arith) (λ _ q. rw q k)
+        seen-old : (z : ℕ) → 0 < getD marks z 0 → 0 < getD (set marks y m) z 0
+        seen-old z k = stored marks y m z hm (λ _ q. omega arith) (λ _ q. rw q k)
 
-        open-old : {z : ℕ} → Open marks z → Open (set marks y 1) z
+        open-old : {z : ℕ} → Open marks z → Open (set marks y m) z
         open-old {z} o =
-            stored marks y 1 z hm
+            stored marks y m z hm
             (λ p q. record { seen = omega arith; left = omega arith })
             (λ p q. record { seen = rw q (o .seen); left = rw q (o .left) })
 
@@ -158,12 +160,12 @@ module _ {g : ℕ → Gate} {N : ℕ} {marks pos stack heads path order : List �
               holds = sym q ∙ (rw (getD-set-other pos y z len 0 d) at (o .holds));
             })
 
-        closed-new : {z : ℕ} → Closed marks pos stack len z → Closed (set marks y 1) (set pos y len) (set stack len y) (len + 1) z
+        closed-new : {z : ℕ} → Closed marks pos stack len z → Closed (set marks y m) (set pos y len) (set stack len y) (len + 1) z
         closed-new c = record { seen = seen-old _ (c .seen); off = λ o. c .off (on-back o (not-y _ (c .seen))) }
 
-        closed-back : {z : ℕ} → Closed (set marks y 1) (set pos y len) (set stack len y) (len + 1) z → Closed marks pos stack len z
+        closed-back : {z : ℕ} → Closed (set marks y m) (set pos y len) (set stack len y) (len + 1) z → Closed marks pos stack len z
         closed-back {z} c =
-            stored marks y 1 z hm
+            stored marks y m z hm
             (λ p q. absurd (c .off (rw p on-y)))
             (λ p q. record { seen = rw q at (c .seen); off = λ o. c .off (on-old o) })
 
@@ -174,7 +176,7 @@ module _ {g : ℕ → Gate} {N : ℕ} {marks pos stack heads path order : List �
         last-y = (depth, omega arith, getD-set-same path depth y 0 hp)
 
         kept : {x z : ℕ} → On pos stack len x → Passed marks pos stack heads len count best x z
-            → Passed (set marks y 1) (set pos y len) (set stack len y) (set heads count len) (len + 1) (count + 1) best x z
+            → Passed (set marks y m) (set pos y len) (set stack len y) (set heads count len) (len + 1) (count + 1) best x z
         kept o (inl c) = inl (closed-new c)
         kept {x} {z} o (inr w) =
             inr (record {

@@ -18,7 +18,7 @@ use Rattle.netlist.specs.Rule.{sourcesOf, signalsIn, readsOf}
 use Rattle.netlist.specs.Graph.{Reads}
 use Rattle.netlist.specs.Settle.{readsIn}
 use Rattle.netlist.specs.Table.{sourceOf, gateWith, gateOf}
-use Rattle.levels.specs.Reading.{asRead, readIn, readAt, placeCount}
+use Rattle.levels.specs.Reading.{asRead, readIn, readAt, placeCount, firstMark}
 
 -- a signal among sources has a place
 place-in : (ss : List Source) (y : ℕ) → List·Memᴰ y (signalsIn ss) → (i : ℕ) × (i < length ss) × (readIn ss i ≡ Signal y)
@@ -53,11 +53,14 @@ module _ (g : ℕ → Gate) (x : ℕ) where
   -- a signal reads what stands at one of its six places, and only that
   pub place-of : (y : ℕ) → Reads (readsIn g) x y → (i : ℕ) × (i < 6) × (readAt g x i ≡ Signal y)
   unfolding readsOf
-  place-of y r = let w = place-in (sourcesOf (g x)) y r in (w .0, omega (arith, six (g x)), w .2)
+  place-of y r =
+      let w = place-in (sourcesOf (g x)) y r in
+      let back : 5 - (5 - w .0) ≡ w .0 = omega (arith, six (g x)) in
+      (5 - w .0, omega arith, rw back (w .2))
 
   pub reads-of : (i y : ℕ) → readAt g x i ≡ Signal y → Reads (readsIn g) x y
   unfolding readsOf
-  reads-of i y e = in-place (sourcesOf (g x)) i y e
+  reads-of i y e = in-place (sourcesOf (g x)) (5 - i) y e
 
   -- a place has one content
   pub not-both : (i y : ℕ) → readAt g x i ≡ Nothing → readAt g x i ≡ Signal y → ⊥
@@ -104,18 +107,33 @@ first-sources n head p =
     by false false false false true h = refl
     by false false false false false h = refl
 
-module _ (table : List ℕ) (n x i : ℕ) where
-  -- a place that the head counts holds what its source is
-  pub counted-place : i < placeCount n (getD table (7 * x) 0) → readAt (gateOf table n) x i ≡ asRead (sourceOf (getD table (7 * x + 1 + i) 0))
+module _ (table : List ℕ) (n x k : ℕ) where
+  -- source k of a row is read as what it is, where the head counts it
+  pub counted-source : k < placeCount n (getD table (7 * x) 0) → readIn (sourcesOf (gateOf table n x)) k ≡ asRead (sourceOf (getD table (7 * x + 1 + k) 0))
   unfolding gateOf
-  counted-place h =
-      let e : 7 * x + 1 + i ≡ 7 * x + suc i = omega arith in
+  counted-source h =
+      let e : 7 * x + 1 + k ≡ 7 * x + suc k = omega arith in
       rw (first-sources n (getD table (7 * x) 0) (λ j. sourceOf (getD table (7 * x + j) 0)), e)
-      (first-in (placeCount n (getD table (7 * x) 0)) (λ j. sourceOf (getD table (7 * x + j) 0)) i h)
+      (first-in (placeCount n (getD table (7 * x) 0)) (λ j. sourceOf (getD table (7 * x + j) 0)) k h)
 
-  -- and any other nothing
-  pub other-place : placeCount n (getD table (7 * x) 0) ≤ i → readAt (gateOf table n) x i ≡ Nothing
+  -- and as nothing elsewhere
+  pub other-source : placeCount n (getD table (7 * x) 0) ≤ k → readIn (sourcesOf (gateOf table n x)) k ≡ Nothing
   unfolding gateOf
-  other-place h =
+  other-source h =
       rw (first-sources n (getD table (7 * x) 0) (λ j. sourceOf (getD table (7 * x + j) 0)))
-      (first-out (placeCount n (getD table (7 * x) 0)) (λ j. sourceOf (getD table (7 * x + j) 0)) i h)
+      (first-out (placeCount n (getD table (7 * x) 0)) (λ j. sourceOf (getD table (7 * x + j) 0)) k h)
+
+pub places-most : (n head : ℕ) → placeCount n head ≤ 6
+unfolding placeCount
+places-most n head = by (ltb head (4 * n)) (ltb head (16 * n)) (eqb head (16 * n)) (eqb head (16 * n + 1))
+  where
+    by : (a b c d : Bool) → cond a 6 (cond b 0 (cond c 3 (cond d 2 1))) ≤ 6
+    by true b c d = lit≤ tt
+    by false true c d = lit≤ tt
+    by false false true d = lit≤ tt
+    by false false false true = lit≤ tt
+    by false false false false = lit≤ tt
+
+-- nothing is read before the first mark
+pub none-before : (table : List ℕ) (n x i y : ℕ) → suc i < firstMark n (getD table (7 * x) 0) → readAt (gateOf table n) x i ≡ Signal y → ⊥
+none-before table n x i y h r = not-both (gateOf table n) x i y (other-source table n x (5 - i) (omega arith)) r

@@ -5,7 +5,7 @@ ghost use lib.ListN.{length, getD};
 ghost use Rattle.netlist.specs.Graph.{WellFormed};
 ghost use Rattle.netlist.specs.Settle.{readsIn};
 ghost use Rattle.netlist.specs.Table.{signalLimit, sourceOf, gateOf};
-ghost use Rattle.levels.specs.Reading.{asRead, readAt, placeCount};
+ghost use Rattle.levels.specs.Reading.{asRead, readAt, placeCount, firstMark};
 ghost use Rattle.levels.specs.Answer.{OrderOrLoop};
 ghost use Rattle.levels.specs.Components.{Components, TopReady, Wants, Scanning, Scanned, Above, Least};
 use netlist::SIGNAL_LIMIT;
@@ -63,18 +63,29 @@ fn place_count(n: usize, head: usize) -> usize
     }
 }
 
-// What signal x reads at place i.
+// What signal x reads at place i, from its sixth source down to its first.
 fn read_at(table: &[u16], n: usize, x: usize, i: usize) -> Read
     requires { ⌜ (32 * n ≤ signalLimit) × (length (now table) ≡ 224 * n) × (x < 32 * n) × (i < 6) ⌝ }
     ensures { λ r. ⌜ r ≡ readAt (gateOf (now (table .entry)) n) x i ⌝ }
 {
     let at = 7 * x;
     let head = wide16(table[at]);
-    if i < place_count(n, head) {
-        let code = wide16(table[at + 1 + i]);
+    let source = 5 - i;
+    if source < place_count(n, head) {
+        let code = wide16(table[at + 1 + source]);
         return read_of(code);
     }
     Read::Nothing
+}
+
+// The mark of signal x when it is opened, past the places that its gate doesn't have.
+fn first_mark(table: &[u16], n: usize, x: usize) -> u8
+    requires { ⌜ (32 * n ≤ signalLimit) × (length (now table) ≡ 224 * n) × (x < 32 * n) ⌝ }
+    ensures { λ r. ⌜ r ≡ firstMark n (getD (now (table .entry)) (7 * x) 0) ⌝ }
+{
+    let head = wide16(table[7 * x]);
+    let places = place_count(n, head);
+    (7 - places) as u8
 }
 
 // Where the search stands: the next root to try, how many signals are open, how many are on the stack, how many components
@@ -161,14 +172,15 @@ fn open_signal(
     y: usize,
 ) -> Scan
     requires { ⌜ Scanning (gateOf (now table) n) (32 * n) (now marks) (now pos) (now stack) (now heads) (now path) (now order) p ⌝ }
-    requires { ⌜ (p .next < 32 * n) × (y < 32 * n) × (getD (now marks) y 0 ≡ 0) ⌝ }
+    requires { ⌜ (p .next < 32 * n) × (y < 32 * n) × (getD (now marks) y 0 ≡ 0) × (length (now table) ≡ 224 * n) ⌝ }
     requires { ⌜ Above (gateOf (now table) n) (now stack) (p .len) y ⌝ }
     ensures { λ r. ⌜ Scanned (gateOf (now (table .entry)) n) (32 * n) (now (marks .entry)) p (now (marks .exit)) (now (pos .exit)) (now (stack .exit)) (now (heads .exit)) (now (path .exit)) (now (order .exit)) r ⌝ }
 {
     let len = p.len;
     let count = p.count;
     let depth = p.depth;
-    marks[y] = 1;
+    let mark = first_mark(table, n, y);
+    marks[y] = mark;
     pos[y] = len as u16;
     stack[len] = y as u16;
     heads[count] = len as u16;

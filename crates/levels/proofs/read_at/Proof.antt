@@ -1,11 +1,11 @@
 -- `levels::read_at` meets its contract: the head says whether the place is read. Assumes nothing.
-use Prim.Native.Nat.{_*_}
+use Prim.Native.Nat.{_-_, _*_}
 use mathlib.Core.Path.{_≡_, sym, _∙_}
 use native.Mathlib.Omega.{arith}
 use lib.ListN.{getD}
 use denote.Ref.{now}
 use Rattle.levels.specs.Reading.{placeCount}
-use Rattle.levels.proofs.Reading.{counted-place, other-place}
+use Rattle.levels.proofs.Reading.{counted-source, other-source}
 use borrow.Author.Needs.{needs}
 use Rattle.levels.proofs.read_at.Statement.{statement}
 use Rattle.levels.proofs.read_at.Tie as tie
@@ -25,6 +25,9 @@ shared-slice-read-wide16 c = search needs
 
 wide16-requires : tie.Need-wide16-requires
 wide16-requires c κs = search needs
+
+sub-source : tie.Need-sub-source
+sub-source c = search needs
 
 place-count-requires : tie.Need-place-count-requires
 place-count-requires c κs = search needs
@@ -52,12 +55,12 @@ returns c =
     let a = c .before .before .before .before in
     let b = a .before .before .before .before in
     c .read-of .ensures
-    ∙ rw (c .before .wide162 .ensures) (sym (counted-place (now (b .args .table)) (b .args .n) (b .args .x) (b .args .i) (omega (arith, counted a, c .before .before .before .if1 .taken))))
+    ∙ rw (c .before .wide162 .ensures) (sym (counted-source (now (b .args .table)) (b .args .n) (b .args .x) (5 - b .args .i) (omega (arith, counted a, c .before .before .before .if1 .taken))))
 
 returns-2 : tie.Need-returns-2
 returns-2 c =
     let b = c .before .before .before .before .before in
-    sym (other-place (now (b .args .table)) (b .args .n) (b .args .x) (b .args .i) (omega (arith, counted (c .before), c .if1 .left)))
+    sym (other-source (now (b .args .table)) (b .args .n) (b .args .x) (5 - b .args .i) (omega (arith, counted (c .before), c .if1 .left)))
 
 pub read-at-spec : {M : Type 1} → statement M
 read-at-spec =
@@ -67,6 +70,7 @@ read-at-spec =
     mul-wide16
     shared-slice-read-wide16
     wide16-requires
+    sub-source
     place-count-requires
     add-wide16
     add-wide16-2

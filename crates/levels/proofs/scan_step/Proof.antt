@@ -56,7 +56,7 @@ open-signal-requires : tie.Need-open-signal-requires
 open-signal-requires c κs =
     let a = c .before .before .before .before .before .before in
     let b = begin (a .before .before .before) in
-    (b .pre .0, ((b .pre .1 .0, b .pre .1 .0, a .if2 .taken), above-root (b .pre .0) _ (omega (arith, a .before .before .if1 .left))))
+    (b .pre .0, ((b .pre .1 .0, b .pre .1 .0, a .if2 .taken, b .pre .1 .1), above-root (b .pre .0) _ (omega (arith, a .before .before .if1 .left))))
 
 same-length-7 : tie.Need-same-length-7
 same-length-7 c = search needs

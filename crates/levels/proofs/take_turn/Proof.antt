@@ -104,7 +104,7 @@ open-signal-requires c κs =
     let a = d .before .before in
     let b = begin a in
     let w = wanted a _ (d .y .given .1) in
-    (b .pre .0, ((b .pre .1 .0, w .0, w .2), above-read (b .pre .0) (b .pre .1 .1) (b .pre .1 .2) (w .1)))
+    (b .pre .0, ((b .pre .1 .0, w .0, w .2, b .pre .1 .3), above-read (b .pre .0) (b .pre .1 .1) (b .pre .1 .2) (w .1)))
 
 enum-told-3 : tie.Need-enum-told-3
 enum-told-3 c = search needs
