@@ -123,17 +123,7 @@ pub fn settle(
     let Verdict::Accepted { n, m } = v else {
         return refusal(v);
     };
-    settle_accepted(
-        file,
-        n,
-        m,
-        &net,
-        &order,
-        contents,
-        flops,
-        inputs,
-        values,
-    )
+    settle_accepted(file, n, m, &net, &order, contents, flops, inputs, values)
 }
 
 // Moves the state of a sound file over the clock edge, from the table settled before it.
@@ -198,15 +188,5 @@ pub fn clock(
     let Verdict::Accepted { n, m } = v else {
         return refusal(v);
     };
-    clock_accepted(
-        file,
-        n,
-        m,
-        &net,
-        &order,
-        contents,
-        flops,
-        inputs,
-        values,
-    )
+    clock_accepted(file, n, m, &net, &order, contents, flops, inputs, values)
 }
