@@ -1,7 +1,8 @@
 // One path-based search for strongly connected components over a gate table, with no recursion.
 ghost use mathlib.Core.Path.{_≡_};
 ghost use Prim.Native.Nat.{_+_, _*_, _-_, _≤_, _<_};
-ghost use lib.ListN.{length, getD};
+ghost use mathlib.Core.Logic.{_⊎_};
+ghost use lib.ListN.{length, getD, set};
 ghost use Rattle.netlist.specs.Graph.{WellFormed};
 ghost use Rattle.netlist.specs.Settle.{readsIn};
 ghost use Rattle.netlist.specs.Table.{signalLimit, sourceOf, gateOf};
@@ -192,6 +193,40 @@ fn open_signal(
     q
 }
 
+// The top is done: it is listed, and the stack is cut to a length and a count of components.
+fn close_top(
+    marks: &mut [u8],
+    order: &mut [u16],
+    p: Scan,
+    top: usize,
+    len: usize,
+    count: usize,
+) -> Scan
+    requires { ⌜ (top < length (now marks)) × (top < signalLimit) × (p .done < length (now order)) × (p .done < signalLimit) × (0 < p .depth) ⌝ }
+    ensures { λ _. ⌜ (now (marks .exit) ≡ set (now (marks .entry)) top 8) × (now (order .exit) ≡ set (now (order .entry)) (p .done) top) ⌝ }
+    ensures { λ r. ⌜ r ≡ record { next = p .next; depth = p .depth - 1; len = len; count = count; done = p .done + 1; best = p .best } ⌝ }
+{
+    let depth = p.depth;
+    let done = p.done;
+    marks[top] = 8;
+    order[done] = top as u16;
+    let mut q = p;
+    q.depth = depth - 1;
+    q.len = len;
+    q.count = count;
+    q.done = done + 1;
+    q
+}
+
+fn smaller(a: usize, b: usize) -> usize
+    ensures { λ r. ⌜ (r ≤ a) × (r ≤ b) × ((r ≡ b) ⊎ (r ≡ a)) ⌝ }
+{
+    if a < b {
+        return a;
+    }
+    b
+}
+
 // One turn of the open signal on top.
 fn take_turn(
     table: &[u16],
@@ -209,29 +244,13 @@ fn take_turn(
     requires { ⌜ (p .next < 32 * n) × (0 < p .depth) × (getD (now path) (p .depth - 1) 0 ≡ top) × (length (now table) ≡ 224 * n) ⌝ }
     ensures { λ r. ⌜ Scanned (gateOf (now (table .entry)) n) (32 * n) (now (marks .entry)) p (now (marks .exit)) (now (pos .exit)) (now (stack .exit)) (now (heads .exit)) (now (path .exit)) (now (order .exit)) r ⌝ }
 {
-    let depth = p.depth;
     let len = p.len;
     let count = p.count;
-    let done = p.done;
     let best = p.best;
     let mut q = p;
     match next_turn(table, n, marks, pos, stack, heads, len, count, top) {
-        Turn::Close(at) => {
-            marks[top] = 8;
-            order[done] = top as u16;
-            q.depth = depth - 1;
-            q.len = at;
-            q.count = count - 1;
-            q.done = done + 1;
-            q
-        }
-        Turn::Leave => {
-            marks[top] = 8;
-            order[done] = top as u16;
-            q.depth = depth - 1;
-            q.done = done + 1;
-            q
-        }
+        Turn::Close(at) => close_top(marks, order, p, top, at, count - 1),
+        Turn::Leave => close_top(marks, order, p, top, len, count),
         Turn::Raise => {
             marks[top] = marks[top] + 1;
             p
@@ -243,11 +262,8 @@ fn take_turn(
         }
         Turn::Meet(_) => {
             marks[top] = marks[top] + 1;
-            if top < best {
-                q.best = top;
-                return q;
-            }
-            p
+            q.best = smaller(top, best);
+            q
         }
     }
 }

@@ -1,12 +1,12 @@
 -- `levels::take_turn` meets its contract: each arm is one move of the search. Assumes nothing.
 use Prim.Native.Nat.{_*_, _<_}
 use mathlib.Core.Path.{_≡_, refl, subst}
-use mathlib.Core.Logic.{inl, inr}
+use mathlib.Core.Logic.{inl}
 use native.Mathlib.Omega.{arith}
 use lib.ListN.{length}
 use denote.Ref.{now}
 use Rattle.levels.specs.declared.Turn.{Turn}
-use Rattle.netlist.specs.Table.{gateOf}
+use Rattle.netlist.specs.Table.{signalLimit, gateOf}
 use Rattle.levels.specs.Components.{TopReady, Wants}
 use Rattle.levels.proofs.Components.{order-room, ready, above-read}
 use Rattle.levels.proofs.Moves.{raise, meet, merge, leave, close}
@@ -35,53 +35,31 @@ Wanted c t =
 wanted : (c : tie.After-next-turn) (t : Turn) → c .next-turn .result ≡ t → Wanted c t
 wanted c t e = subst (Wanted c) e (c .next-turn .ensures)
 
+-- the top can be listed
+may-close : (b : tie.Start)
+    → ((b .args .top < length (now (b .args .marks))) × (b .args .top < signalLimit) × (b .args .p .done < length (now (b .args .order))) × (b .args .p .done < signalLimit) × (0 < b .args .p .depth))
+may-close b =
+    let r = top-ready b in
+    let h = has-room b in
+    (omega (arith, r), omega (arith, r), h, omega (arith, r, b .pre .0 .order-sized), b .pre .1 .1)
+
 next-turn-requires : tie.Need-next-turn-requires
 next-turn-requires c κs = let b = c .before .before .before .before .before .before .before .before .before .before .before in ((b .pre .0 .bounded, b .pre .1 .3), top-ready b)
 
 enum-known-at : tie.Need-enum-known-at
 enum-known-at c = search needs
 
-slice-write-marks : tie.Need-slice-write-marks
-slice-write-marks c = omega (arith, top-ready (begin (c .before .before .before)))
+sub-close-top : tie.Need-sub-close-top
+sub-close-top c = omega (arith, top-ready (begin (c .before .before .before .before .before)))
 
-cast-order : tie.Need-cast-order
-cast-order c = omega (arith, top-ready (begin (c .before .before .before)))
-
-mul-order : tie.Need-mul-order
-mul-order c = omega (arith, has-room (begin (c .before .before .before)), begin (c .before .before .before) .good .1 .1 .1 .1 .1 .1 .1 .0)
-
-slice-write-order : tie.Need-slice-write-order
-slice-write-order c = has-room (begin (c .before .before .before))
-
-sub-q : tie.Need-sub-q
-sub-q c = search needs
-
-sub-q-2 : tie.Need-sub-q-2
-sub-q-2 c = omega (arith, top-ready (begin (c .before .before .before)))
-
-add-q : tie.Need-add-q
-add-q c = omega (arith, has-room (begin (c .before .before .before)), begin (c .before .before .before) .good .1 .1 .1 .1 .1 .1 .1 .0)
+close-top-requires : tie.Need-close-top-requires
+close-top-requires c κs = may-close (begin (c .before .before .before .before .before))
 
 enum-told : tie.Need-enum-told
 enum-told c = search needs
 
-slice-write-marks-2 : tie.Need-slice-write-marks-2
-slice-write-marks-2 c = omega (arith, top-ready (begin (c .before .before)))
-
-cast-order-2 : tie.Need-cast-order-2
-cast-order-2 c = omega (arith, top-ready (begin (c .before .before)))
-
-mul-order-2 : tie.Need-mul-order-2
-mul-order-2 c = omega (arith, has-room (begin (c .before .before)), begin (c .before .before) .good .1 .1 .1 .1 .1 .1 .1 .0)
-
-slice-write-order-2 : tie.Need-slice-write-order-2
-slice-write-order-2 c = has-room (begin (c .before .before))
-
-sub-q-3 : tie.Need-sub-q-3
-sub-q-3 c = search needs
-
-add-q-2 : tie.Need-add-q-2
-add-q-2 c = omega (arith, has-room (begin (c .before .before)), begin (c .before .before) .good .1 .1 .1 .1 .1 .1 .1 .0)
+close-top-requires-2 : tie.Need-close-top-requires-2
+close-top-requires-2 c κs = may-close (begin (c .before .before .before .before))
 
 enum-told-2 : tie.Need-enum-told-2
 enum-told-2 c = search needs
@@ -92,8 +70,8 @@ slice-read-marks c = omega (arith, top-ready (begin (c .before .before .before))
 add-marks : tie.Need-add-marks
 add-marks c = omega (arith, top-ready (begin (c .before .before .before)), top-ready (begin (c .before .before .before)) .top-open .left)
 
-slice-write-marks-3 : tie.Need-slice-write-marks-3
-slice-write-marks-3 c = omega (arith, top-ready (begin (c .before .before .before)))
+slice-write-marks : tie.Need-slice-write-marks
+slice-write-marks c = omega (arith, top-ready (begin (c .before .before .before)))
 
 enum-known-y : tie.Need-enum-known-y
 enum-known-y c = search needs
@@ -109,8 +87,8 @@ open-signal-requires c κs =
 enum-told-3 : tie.Need-enum-told-3
 enum-told-3 c = search needs
 
-sub-q-4 : tie.Need-sub-q-4
-sub-q-4 c = omega (arith, top-ready (begin (c .before .before)))
+sub-q : tie.Need-sub-q
+sub-q c = omega (arith, top-ready (begin (c .before .before)))
 
 enum-told-4 : tie.Need-enum-told-4
 enum-told-4 c = search needs
@@ -121,8 +99,11 @@ slice-read-marks-2 c = omega (arith, top-ready (begin (c .before .before .before
 add-marks-2 : tie.Need-add-marks-2
 add-marks-2 c = omega (arith, top-ready (begin (c .before .before .before)), top-ready (begin (c .before .before .before)) .top-open .left)
 
-slice-write-marks-4 : tie.Need-slice-write-marks-4
-slice-write-marks-4 c = omega (arith, top-ready (begin (c .before .before .before)))
+slice-write-marks-2 : tie.Need-slice-write-marks-2
+slice-write-marks-2 c = omega (arith, top-ready (begin (c .before .before .before)))
+
+smaller-requires : tie.Need-smaller-requires
+smaller-requires c κs = search needs
 
 same-length : tie.Need-same-length
 same-length c = search needs
@@ -136,16 +117,18 @@ same-length-3 c = search needs
 same-length-4 : tie.Need-same-length-4
 same-length-4 c = search needs
 
-returns : tie.Need-returns
-returns c =
-    let d = c .before .before in
-    let a = d .before .before in
-    let b = begin a in
-    let w = wanted a _ (d .enum-told4 .given .1) in
-    meet (b .pre .0) (b .pre .1 .1) (b .pre .1 .2) _ _ _ (b .pre .1 .0) refl (w .3) (omega arith) (omega arith) (inr refl) (w .0) (w .4) (w .1) (w .2)
-
 same-length-5 : tie.Need-same-length-5
 same-length-5 c = search needs
+
+returns : tie.Need-returns
+returns c =
+    let k = c .before .before .before .before in
+    let d = k .before .before .before .before in
+    let a = d .before .before in
+    let b = begin a in
+    let w = wanted a _ (d .at .given .1) in
+    let e = k .close-top .ensures in
+    rw (e .0 .0, e .0 .1, e .1) (close (b .pre .0) (b .pre .1 .1) (b .pre .1 .2) _ (b .pre .1 .0) (w .0) (w .1) (w .2))
 
 same-length-6 : tie.Need-same-length-6
 same-length-6 c = search needs
@@ -159,15 +142,18 @@ same-length-8 c = search needs
 same-length-9 : tie.Need-same-length-9
 same-length-9 c = search needs
 
-returns-2 : tie.Need-returns-2
-returns-2 c =
-    let a = c .before .before .before in
-    let b = begin a in
-    let w = wanted a _ (c .before .at .given .1) in
-    close (b .pre .0) (b .pre .1 .1) (b .pre .1 .2) _ (b .pre .1 .0) (w .0) (w .1) (w .2)
-
 same-length-10 : tie.Need-same-length-10
 same-length-10 c = search needs
+
+returns-2 : tie.Need-returns-2
+returns-2 c =
+    let k = c .before .before .before .before in
+    let d = k .before .before .before in
+    let a = d .before .before in
+    let b = begin a in
+    let w = wanted a _ (d .enum-told .given .1) in
+    let e = k .close-top2 .ensures in
+    rw (e .0 .0, e .0 .1, e .1) (leave (b .pre .0) (b .pre .1 .1) (b .pre .1 .2) (b .pre .1 .0) (w .0) (w .1))
 
 same-length-11 : tie.Need-same-length-11
 same-length-11 c = search needs
@@ -183,10 +169,11 @@ same-length-14 c = search needs
 
 returns-3 : tie.Need-returns-3
 returns-3 c =
-    let a = c .before .before in
+    let d = c .before in
+    let a = d .before .before in
     let b = begin a in
-    let w = wanted a _ (c .enum-told .given .1) in
-    leave (b .pre .0) (b .pre .1 .1) (b .pre .1 .2) (b .pre .1 .0) (w .0) (w .1)
+    let w = wanted a _ (d .enum-told2 .given .1) in
+    raise (b .pre .0) (b .pre .1 .1) (b .pre .1 .2) _ _ (b .pre .1 .0) refl (w .0) (omega arith) (b .pre .0 .best-loop) (λ i y e r. inl (w .1 i y e r))
 
 same-length-15 : tie.Need-same-length-15
 same-length-15 c = search needs
@@ -200,19 +187,14 @@ same-length-17 c = search needs
 same-length-18 : tie.Need-same-length-18
 same-length-18 c = search needs
 
-returns-4 : tie.Need-returns-4
-returns-4 c =
-    let d = c .before in
-    let a = d .before .before in
-    let b = begin a in
-    let w = wanted a _ (d .enum-told2 .given .1) in
-    raise (b .pre .0) (b .pre .1 .1) (b .pre .1 .2) _ _ (b .pre .1 .0) refl (w .0) (omega arith) (b .pre .0 .best-loop) (λ i y e r. inl (w .1 i y e r))
-
 same-length-19 : tie.Need-same-length-19
 same-length-19 c = search needs
 
 same-length-20 : tie.Need-same-length-20
 same-length-20 c = search needs
+
+returns-4 : tie.Need-returns-4
+returns-4 c = search needs
 
 same-length-21 : tie.Need-same-length-21
 same-length-21 c = search needs
@@ -227,7 +209,11 @@ same-length-24 : tie.Need-same-length-24
 same-length-24 c = search needs
 
 returns-5 : tie.Need-returns-5
-returns-5 c = search needs
+returns-5 c =
+    let a = c .before .before in
+    let b = begin a in
+    let w = wanted a _ (c .enum-told3 .given .1) in
+    merge (b .pre .0) (b .pre .1 .1) (b .pre .1 .2) _ (w .0) (w .1) (w .2)
 
 same-length-25 : tie.Need-same-length-25
 same-length-25 c = search needs
@@ -243,30 +229,12 @@ same-length-28 c = search needs
 
 returns-6 : tie.Need-returns-6
 returns-6 c =
-    let a = c .before .before in
-    let b = begin a in
-    let w = wanted a _ (c .enum-told3 .given .1) in
-    merge (b .pre .0) (b .pre .1 .1) (b .pre .1 .2) _ (w .0) (w .1) (w .2)
-
-same-length-29 : tie.Need-same-length-29
-same-length-29 c = search needs
-
-same-length-30 : tie.Need-same-length-30
-same-length-30 c = search needs
-
-same-length-31 : tie.Need-same-length-31
-same-length-31 c = search needs
-
-same-length-32 : tie.Need-same-length-32
-same-length-32 c = search needs
-
-returns-7 : tie.Need-returns-7
-returns-7 c =
     let d = c .before .before in
     let a = d .before .before in
     let b = begin a in
     let w = wanted a _ (d .enum-told4 .given .1) in
-    meet (b .pre .0) (b .pre .1 .1) (b .pre .1 .2) _ _ _ (b .pre .1 .0) refl (w .3) (omega arith) (omega arith) (inl refl) (w .0) (w .4) (w .1) (w .2)
+    let m = c .smaller .ensures in
+    meet (b .pre .0) (b .pre .1 .1) (b .pre .1 .2) _ _ _ (b .pre .1 .0) refl (w .3) (m .1) (m .0) (m .2) (w .0) (w .4) (w .1) (w .2)
 
 pub take-turn-spec : {M : Type 1} → statement M
 take-turn-spec =
@@ -274,44 +242,35 @@ take-turn-spec =
     (tie.spec
     next-turn-requires
     enum-known-at
-    slice-write-marks
-    cast-order
-    mul-order
-    slice-write-order
-    sub-q
-    sub-q-2
-    add-q
+    sub-close-top
+    close-top-requires
     enum-told
-    slice-write-marks-2
-    cast-order-2
-    mul-order-2
-    slice-write-order-2
-    sub-q-3
-    add-q-2
+    close-top-requires-2
     enum-told-2
     slice-read-marks
     add-marks
-    slice-write-marks-3
+    slice-write-marks
     enum-known-y
     open-signal-requires
     enum-told-3
-    sub-q-4
+    sub-q
     enum-told-4
     slice-read-marks-2
     add-marks-2
-    slice-write-marks-4
+    slice-write-marks-2
+    smaller-requires
     same-length
     same-length-2
     same-length-3
     same-length-4
-    returns
     same-length-5
+    returns
     same-length-6
     same-length-7
     same-length-8
     same-length-9
-    returns-2
     same-length-10
+    returns-2
     same-length-11
     same-length-12
     same-length-13
@@ -321,9 +280,9 @@ take-turn-spec =
     same-length-16
     same-length-17
     same-length-18
-    returns-4
     same-length-19
     same-length-20
+    returns-4
     same-length-21
     same-length-22
     same-length-23
@@ -333,9 +292,4 @@ take-turn-spec =
     same-length-26
     same-length-27
     same-length-28
-    returns-6
-    same-length-29
-    same-length-30
-    same-length-31
-    same-length-32
-    returns-7)
+    returns-6)
