@@ -7,7 +7,7 @@ use borrow.Author.Tests.{eqb-true, not-false}
 use lib.Dec.{eqb}
 use lib.ListN.{length}
 use Rattle.rules.specs.Rules.{given}
-use Rattle.rules.proofs.RecordLaws.{given-none, orElse-left, orElse-right}
+use Rattle.rules.proofs.Refusals.{given-none, orElse-left, orElse-right}
 use Rattle.slicefile.proofs.Tests.{or-left, or-right}
 use Rattle.column.specs.Clock.{State}
 use Rattle.column.specs.File.{signalCount}

@@ -110,7 +110,7 @@ fn settle_case(label: &[u8], file: File, contents: &mut [u64]) {
     let mut flops = [0u8; 1];
     let mut values = [1u8; 32];
     let inputs = [0u8; 0];
-    simulator::power_up(&file, contents, &mut flops);
+    calls::power_up(&file, contents, &mut flops);
     io::write_all(STDOUT_FILENO, label);
     match simulator::settle(&file, contents, &flops, &inputs, &mut values) {
         Answer::Refused { number, place } => {
@@ -129,7 +129,7 @@ fn clocked(file: File, clocks: usize) -> Left {
     let mut flops = [0u8; 1];
     let mut values = [0u8; 32];
     let inputs = [0u8; 0];
-    simulator::power_up(&file, &mut contents, &mut flops);
+    calls::power_up(&file, &mut contents, &mut flops);
     let mut i = 0;
     while i < clocks {
         simulator::clock(&file, &mut contents, &mut flops, &inputs, &mut values);

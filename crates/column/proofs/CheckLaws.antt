@@ -6,8 +6,8 @@ use native.Mathlib.Omega.{arith}
 use lib.ListN.{length, take, drop, length-drop}
 use lib.Seq.{take-all, drop-drop}
 use Rattle.slicefile.specs.Format.{sliceTag, recordLength}
-use Rattle.rules.specs.Rules.{sliceRefusal}
-use Rattle.rules.proofs.RecordLaws.{slice-whole}
+use Rattle.framing.specs.Framing.{sliceRefusal}
+use Rattle.framing.proofs.RecordLaws.{slice-whole}
 use Rattle.column.specs.File.{recordStart}
 use Rattle.column.specs.Check.{firstBad, checkEnd, checkSlices, checkFile}
 use Rattle.column.specs.declared.Checked.{Checked}

@@ -13,9 +13,10 @@ use native.Mathlib.Nat.{zero-add, add-zero}
 use lib.ListN.{length, take, drop, length-append, length-drop, length-take, take-append-drop, List·getD-append}
 use lib.Seq.{take-all, drop-append-le}
 use Rattle.slicefile.specs.Format.{sliceTag, endTag, recordLength}
-use Rattle.rules.specs.Rules.{given, headerRefusal, sliceRefusal, sizeRefusal}
-use Rattle.rules.proofs.RecordLaws.{header-whole, slice-whole, size-whole, size-tells}
-use Rattle.rules.proofs.PrefixLaws.{header-stays, header-cut, slice-stays, slice-cut, size-stays, size-cut}
+use Rattle.rules.specs.Rules.{given}
+use Rattle.framing.specs.Framing.{headerRefusal, sliceRefusal, sizeRefusal}
+use Rattle.framing.proofs.RecordLaws.{header-whole, slice-whole, size-whole, size-tells}
+use Rattle.framing.proofs.PrefixLaws.{header-stays, header-cut, slice-stays, slice-cut, size-stays, size-cut}
 use Rattle.column.specs.File.{sliceCount, inputCount, recordStart, fileLength, fileLimit}
 use Rattle.column.specs.Check.{firstBad, checkEnd, checkSlices, checkFile}
 use Rattle.column.specs.Judge.{Judged, bad, accepted, loop}

@@ -9,8 +9,10 @@ use lib.Dec.{ltb}
 use lib.ListN.{length, take, drop, length-drop}
 use lib.Seq.{drop-drop, length-take-le}
 use Rattle.slicefile.specs.Format.{sliceLimit, inputLimit, sliceTag, endTag, headLength, bodyLength, recordLength}
-use Rattle.rules.specs.Rules.{given, headerRefusal, sliceRefusal, sizeRefusal}
-use Rattle.rules.proofs.RecordLaws.{given-none, header-whole, slice-whole, size-whole, size-tells}
+use Rattle.rules.specs.Rules.{given}
+use Rattle.framing.specs.Framing.{headerRefusal, sliceRefusal, sizeRefusal}
+use Rattle.rules.proofs.Refusals.{given-none}
+use Rattle.framing.proofs.RecordLaws.{header-whole, slice-whole, size-whole, size-tells}
 use Rattle.column.specs.File.{sliceCount, inputCount, recordStart, fileLength, sliceBody}
 use Rattle.column.specs.Check.{firstBad, checkEnd, checkSlices, checkFile}
 use Rattle.column.specs.declared.Checked.{Checked}

@@ -11,9 +11,11 @@ use Rattle.netlist.specs.Graph.{LoopFree}
 use Rattle.netlist.specs.Rule.{applyGate, ruleOf, sourcesOf, signalsIn, readsOf, valueOf}
 use Rattle.slicefile.specs.Lists.{anyBelow, tabulate}
 use Rattle.slicefile.specs.Driver.{driverOf}
-use Rattle.rules.specs.Rules.{headerRefusal, badSize, letterChoice, badChoice, letterCombination, badCombination, badDriver, bodyRefusal, sliceRefusal, sizeRefusal}
+use Rattle.rules.specs.Rules.{letterChoice, badChoice, letterCombination, badCombination, badDriver, bodyRefusal}
+use Rattle.framing.specs.Framing.{headerRefusal, badSize, sliceRefusal, sizeRefusal}
 use Rattle.slicefile.proofs.Tests.{and-left, and-right}
-use Rattle.series7.specs.Signals.{pinSource, pinsOf, startSource, carryIn, carrySource, wideGate, familyGate, sliceGate}
+use Rattle.sources.specs.Sources.{pinSource}
+use Rattle.series7.specs.Signals.{pinsOf, startSource, carryIn, carrySource, wideGate, familyGate, sliceGate}
 use Rattle.series7.specs.Edge.{mainSource, secondSource, nextBit, nextFlops, writeAddress, nextWord}
 use Rattle.column.specs.File.{sliceCount, sliceBody, signalCount, gateAt}
 use Rattle.column.specs.Check.{checkEnd, checkSlices, checkFile}

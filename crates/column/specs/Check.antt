@@ -4,7 +4,8 @@ use mathlib.Core.List.{List}
 use lib.Dec.{ltb}
 use lib.ListN.{length, drop}
 use Rattle.slicefile.specs.Format.{sliceTag, endTag, recordLength}
-use Rattle.rules.specs.Rules.{given, headerRefusal, sliceRefusal, sizeRefusal}
+use Rattle.rules.specs.Rules.{given}
+use Rattle.framing.specs.Framing.{headerRefusal, sliceRefusal, sizeRefusal}
 use Rattle.column.specs.File.{sliceCount, inputCount, recordStart}
 use Rattle.column.specs.declared.Checked.{Checked}
 use Rattle.column.specs.declared.Checked.the-variants.{Bad, Sound}

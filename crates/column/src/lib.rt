@@ -42,7 +42,7 @@ fn check_end(n: usize, m: usize, place: usize, s: &[u8]) -> Checked
     requires { ⌜ place < 2 ^ 32 ⌝ }
     ensures { λ r. ⌜ r ≡ checkEnd n m place (now (s .entry)) ⌝ }
 {
-    if rules::is_end(s) {
+    if framing::is_end(s) {
         if HEAD < s.len() {
             return Checked::Bad {
                 number: 8,
@@ -51,7 +51,7 @@ fn check_end(n: usize, m: usize, place: usize, s: &[u8]) -> Checked
         }
         return Checked::Sound { n, m };
     }
-    let number = rules::header_refusal(END_TAG, s);
+    let number = framing::header_refusal(END_TAG, s);
     Checked::Bad { number, place }
 }
 
@@ -59,7 +59,7 @@ fn check_end(n: usize, m: usize, place: usize, s: &[u8]) -> Checked
 pub fn check_file(file: &[u8]) -> Checked
     ensures { λ r. ⌜ r ≡ checkFile (now (file .entry)) ⌝ }
 {
-    let h = rules::size_refusal(file);
+    let h = framing::size_refusal(file);
     if h != 0 {
         return Checked::Bad {
             number: h,
@@ -71,7 +71,7 @@ pub fn check_file(file: &[u8]) -> Checked
     let mut s: usize = 0;
     let mut at: usize = SIZE_RECORD;
     while s < n {
-        let r = rules::slice_refusal(n, m, s, &file[at..]);
+        let r = framing::slice_refusal(n, m, s, &file[at..]);
         if r != 0 {
             return Checked::Bad {
                 number: r,

@@ -8,7 +8,7 @@ use lib.Dec.{ltb, eqb}
 use Rattle.netlist.specs.Table.{codeOf}
 use Rattle.slicefile.specs.Lists.{tabulate}
 use Rattle.slicefile.specs.Format.{mode, shiftData, setResetValues, setResetUsed, lutPin, bypassPin, clockEnablePin, setResetPin, writeEnablePin}
-use Rattle.series7.specs.Signals.{pinSource}
+use Rattle.sources.specs.Sources.{pinSource}
 use Rattle.series7.specs.Edge.{flopSource}
 
 -- how many numbers a slice has

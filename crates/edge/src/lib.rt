@@ -4,7 +4,7 @@ ghost use Prim.Native.Nat.{_<_, _≤_};
 ghost use lib.ListN.{length};
 ghost use Rattle.netlist.specs.Table.{inputRoom, codeOf};
 ghost use Rattle.slicefile.specs.Format.{sliceLimit};
-ghost use Rattle.series7.specs.Signals.{pinSource, own};
+ghost use Rattle.sources.specs.Sources.{pinSource, own};
 ghost use Rattle.series7.specs.Edge.{mainSource, secondSource, flopSource};
 ghost use Rattle.edge.specs.Numbers.{resetCode, addressCode, tableKind, dataCode, edgeNumber, edgeNumbers};
 
@@ -16,7 +16,7 @@ fn pin_code(n: usize, m: usize, body: &[u8], p: usize) -> u16
     requires { ⌜ (length (now body) ≡ 124) × (0 < n) × (n ≤ sliceLimit) × (m ≤ inputRoom) × (p < 31) ⌝ }
     ensures { λ r. ⌜ r ≡ codeOf (pinSource n m (now (body .entry)) p) ⌝ }
 {
-    netlist::source_code(series7::pin_source(n, m, body, p))
+    netlist::source_code(sources::pin_source(n, m, body, p))
 }
 
 // The code of signal k of slice s.
@@ -24,7 +24,7 @@ fn own_code(s: usize, k: usize) -> u16
     requires { ⌜ (s < sliceLimit) × (k < 32) ⌝ }
     ensures { λ r. ⌜ r ≡ codeOf (own s k) ⌝ }
 {
-    netlist::source_code(series7::own(s, k))
+    netlist::source_code(sources::own(s, k))
 }
 
 // The set/reset pin, where it is used.
@@ -68,7 +68,7 @@ fn main_code(n: usize, m: usize, s: usize, body: &[u8], l: usize) -> u16
         return own_code(s, 8 + l);
     }
     if choice == 4 {
-        return own_code(s, series7::wide_signal(l));
+        return own_code(s, sources::wide_signal(l));
     }
     if choice == 5 {
         return pin_code(n, m, body, 24 + l);

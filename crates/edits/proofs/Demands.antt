@@ -20,8 +20,8 @@ use Rattle.column.proofs.SoundLaws.{sound-file}
 use Rattle.column.proofs.Verdicts.{accepted-sound, accepted-free}
 use Rattle.buffers.specs.Buffers.{editRefusal, badInput, badTable}
 use Rattle.buffers.proofs.Lengths.{edit-lengths}
-use Rattle.simulator.specs.Calls.{done}
-use Rattle.simulator.proofs.Demands.{agree}
+use Rattle.calls.specs.Calls.{done}
+use Rattle.calls.proofs.Demands.{agree}
 use Rattle.edits.specs.Edits.{EditedFor, InputEdited, TableEdited}
 
 -- the netlist of an accepted file has no loop and reads only its own signals

@@ -15,7 +15,7 @@ use Rattle.column.specs.File.{signalCount, gateAt}
 use Rattle.column.proofs.Netlist.{sound-well-formed}
 use Rattle.column.proofs.SoundLaws.{sound-file}
 use Rattle.column.proofs.Verdicts.{accepted-sound}
-use Rattle.simulator.specs.Calls.{Ready}
+use Rattle.calls.specs.Calls.{Ready}
 
 -- an edit of the netlist in the table, by marks that say what a change touches, is one of the file
 pub edited-file : (file : List ℕ) (n m : ℕ) (net order : List ℕ) → Ready file n m net order → {e : Env} {old new : List ℕ} (marked touches : Gate → Bool)

@@ -12,7 +12,7 @@ use Rattle.slicefile.specs.declared.Answer.{Answer}
 use Rattle.column.specs.Clock.{State, stateOf, envOf}
 use Rattle.column.specs.File.{signalCount, gateAt}
 use Rattle.buffers.specs.Buffers.{editRefusal, badInput, badTable}
-use Rattle.simulator.specs.Calls.{Called}
+use Rattle.calls.specs.Calls.{Called}
 
 -- the value table that an edit leaves, for the state and inputs after it: what depends on the change is recomputed, all else keeps its byte
 abbrev pub EditedFor : List ℕ → (Gate → Bool) → State → List ℕ → List ℕ → List ℕ → ℕ → Type 0

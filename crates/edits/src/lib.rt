@@ -1,7 +1,7 @@
 // The calls on a slice file and lent buffers that change it as it runs: edit an input, edit a table's contents.
 ghost use mathlib.Core.Path.{_≡_};
 ghost use Rattle.column.specs.Clock.{stateOf};
-ghost use Rattle.simulator.specs.Calls.{Ready};
+ghost use Rattle.calls.specs.Calls.{Ready};
 ghost use Rattle.edits.specs.Edits.{InputEdited, TableEdited};
 use column::TABLE_LIMIT;
 use column::Verdict;
@@ -69,7 +69,7 @@ pub fn edit_input(
     let mut order = [0u16; SIGNAL_LIMIT];
     let v = column::load(file, &mut net, &mut order);
     let Verdict::Accepted { n, m } = v else {
-        return simulator::refusal(v);
+        return calls::refusal(v);
     };
     edit_input_accepted(
         file,
@@ -142,7 +142,7 @@ pub fn edit_table(
     let mut order = [0u16; SIGNAL_LIMIT];
     let v = column::load(file, &mut net, &mut order);
     let Verdict::Accepted { n, m } = v else {
-        return simulator::refusal(v);
+        return calls::refusal(v);
     };
     edit_table_accepted(
         file,

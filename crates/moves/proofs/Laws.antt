@@ -16,7 +16,7 @@ use Rattle.netlist.proofs.Fitting.{source-more}
 use Rattle.slicefile.specs.Lists.{tabulate}
 use Rattle.slicefile.specs.Format.{mode, shiftData, mainInput, secondInput, setResetUsed, bypassPin, clockEnablePin, setResetPin, writeEnablePin, lutPin}
 use Rattle.rules.specs.Rules.{bodyRefusal}
-use Rattle.series7.specs.Signals.{pinSource, own, wideSignal}
+use Rattle.sources.specs.Sources.{pinSource, own, wideSignal}
 use Rattle.series7.specs.Edge.{mainSource, secondSource, flopSource, nextBit, nextFlops, writeAddress, written, nextWord}
 use Rattle.series7.proofs.GateLaws.{either, pin-fits}
 use Rattle.edge.specs.Numbers.{resetCode, addressCode, kindOf, tableKind, writeCode, dataCode, edgeNumber, edgeNumbers}

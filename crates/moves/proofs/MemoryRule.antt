@@ -12,7 +12,7 @@ use Rattle.slicefile.specs.Lists.{anyBelow}
 use Rattle.slicefile.specs.Format.{numberByte, kind, mode, shiftData, contentsWord, carryStart}
 use Rattle.rules.specs.Rules.{given, modeIs, badChoice, letterCombination, badCombination, bodyRefusal}
 use Rattle.slicefile.proofs.Tests.{or-left, or-right}
-use Rattle.rules.proofs.RecordLaws.{orElse-left, orElse-right, given-none}
+use Rattle.rules.proofs.Refusals.{orElse-left, orElse-right, given-none}
 
 -- a test that passes nowhere below the bound fails at each number
 none-below : (k : ℕ) (f : ℕ → Bool) → anyBelow k f ≡ false → (l : ℕ) → l < k → f l ≡ false

@@ -8,9 +8,10 @@ use native.Mathlib.Omega.{arith}
 use lib.Dec.{ltb, leb, eqb}
 use lib.ListN.{length, drop}
 use Rattle.slicefile.specs.Format.{sliceLimit, sizeTag, sliceTag, endTag, headLength, bodyLength, recordLength, byteAt, pairAt, bodyOf, numberByte}
-use Rattle.rules.specs.Rules.{given, _orElse_, headerRefusal, badSize, badChoice, badCombination, badDriver, bodyRefusal, sliceRefusal, sizeRefusal}
+use Rattle.rules.specs.Rules.{given, _orElse_, badChoice, badCombination, badDriver, bodyRefusal}
+use Rattle.framing.specs.Framing.{headerRefusal, badSize, sliceRefusal, sizeRefusal}
 use Rattle.slicefile.specs.declared.Answer.{Answer}
-use Rattle.rules.proofs.RecordLaws.{size-tells}
+use Rattle.framing.proofs.RecordLaws.{size-tells}
 use Rattle.column.specs.File.{sliceCount, inputCount, recordStart, fileLimit}
 use Rattle.column.specs.Clock.{State}
 use Rattle.column.specs.Check.{firstBad, checkEnd, checkSlices, checkFile}
@@ -23,7 +24,7 @@ use Rattle.records.specs.Calls.{recordRefusal, readRefusal, writeRefusal, answe
 use Rattle.fields.specs.Record.{recordBytes}
 use Rattle.fields.specs.declared.Record.{Record}
 use Rattle.buffers.specs.Buffers.{badState, badLengths, badBytes, badWords, settleRefusal, editRefusal}
-use Rattle.simulator.specs.Calls.{Called, judged, refused, done}
+use Rattle.calls.specs.Calls.{Called, judged, refused, done}
 use Rattle.quagmuffin.specs.Packed.{Small, SmallAnswer, SmallVerdict}
 
 -- a number given by tests is at most the largest of them

@@ -5,7 +5,8 @@ ghost use lib.ListN.{length};
 ghost use Rattle.slicefile.specs.Format.{sliceTag, bodyLength};
 ghost use Rattle.column.specs.Clock.{stateOf};
 ghost use Rattle.column.specs.Judge.{Judged};
-ghost use Rattle.simulator.specs.Calls.{PoweredUp, SettleCalled, ClockCalled};
+ghost use Rattle.calls.specs.Calls.{PoweredUp};
+ghost use Rattle.simulator.specs.Running.{SettleCalled, ClockCalled};
 ghost use Rattle.edits.specs.Edits.{InputEdited, TableEdited};
 ghost use Rattle.fields.specs.Record.{bodyBytes};
 ghost use Rattle.records.specs.Calls.{readRefusal, answerOf, unless, readRecord};
@@ -60,7 +61,7 @@ pub extern "C" fn qm_judge(file: &[u8]) -> u64
 pub extern "C" fn qm_power_up(file: &[u8], contents: &mut [u64], flops: &mut [u8]) -> u64
     ensures { λ r. ⌜ Answered (PoweredUp (now (file .entry)) (stateOf (now (contents .entry)) (now (flops .entry))) (stateOf (now (contents .exit)) (now (flops .exit)))) r ⌝ }
 {
-    pack_answer(simulator::power_up(file, contents, flops))
+    pack_answer(calls::power_up(file, contents, flops))
 }
 
 // Fills 32n value bytes with the settled signals.

@@ -10,9 +10,11 @@ use lib.ListN.{length, take, drop, replicate, length-drop}
 use lib.Seq.{take-all, take-at, length-take-le}
 use Rattle.slicefile.specs.Format.{sliceTag, bodyLength, recordLength, bodyOf, byteAt}
 use Rattle.slicefile.specs.Lists.{tabulate}
-use Rattle.rules.specs.Rules.{given, _orElse_, headerRefusal, badSize}
+use Rattle.rules.specs.Rules.{given, _orElse_}
+use Rattle.framing.specs.Framing.{headerRefusal, badSize}
 use Rattle.slicefile.specs.declared.Answer.the-variants.{Done}
-use Rattle.rules.proofs.RecordLaws.{orElse-left, orElse-right, given-none, header-tells}
+use Rattle.rules.proofs.Refusals.{orElse-left, orElse-right, given-none}
+use Rattle.framing.proofs.RecordLaws.{header-tells}
 use Rattle.fields.specs.Record.{recordOf, bodyBytes, recordBytes, Below, Typed}
 use Rattle.fields.specs.declared.Record.{Record}
 use Rattle.fields.proofs.Pieces.{piece, join, piece-byte, below-piece}

@@ -5,7 +5,8 @@ use Prim.Native.Nat.{ℕ, zero, suc, _%_, _<_, _≤_}
 use native.Mathlib.Omega.{arith}
 use lib.Dec.{ltb, eqb, lit≤}
 use Rattle.slicefile.specs.Format.{sliceTag, recordLength, bodyOf, numberByte}
-use Rattle.rules.specs.Rules.{given, _orElse_, headerRefusal, badSize, badChoice, badCombination, badDriver, bodyRefusal}
+use Rattle.rules.specs.Rules.{given, _orElse_, badChoice, badCombination, badDriver, bodyRefusal}
+use Rattle.framing.specs.Framing.{headerRefusal, badSize}
 use Rattle.fields.specs.Record.{recordBytes, Sized}
 use Rattle.records.specs.Calls.{recordRefusal, writeRefusal}
 use Rattle.fields.specs.declared.Record.{Record}

@@ -5,7 +5,8 @@ use mathlib.Core.List.{List, _++_}
 use lib.Dec.{ltb, eqb}
 use lib.ListN.{length, drop, replicate}
 use Rattle.slicefile.specs.Format.{sliceTag, bodyLength, recordLength, bodyOf, numberByte}
-use Rattle.rules.specs.Rules.{given, _orElse_, headerRefusal, badSize, bodyRefusal}
+use Rattle.rules.specs.Rules.{given, _orElse_, bodyRefusal}
+use Rattle.framing.specs.Framing.{headerRefusal, badSize}
 use Rattle.fields.specs.Record.{recordOf, recordBytes}
 use Rattle.fields.specs.declared.Record.{Record}
 use Rattle.slicefile.specs.declared.Answer.{Answer}

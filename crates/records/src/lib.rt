@@ -41,7 +41,7 @@ fn zero_record() -> Record
 fn record_refusal(n: usize, m: usize, s: &[u8]) -> usize
     ensures { λ r. ⌜ r ≡ recordRefusal n m (now (s .entry)) ⌝ }
 {
-    let h = rules::header_refusal(SLICE_TAG, s);
+    let h = framing::header_refusal(SLICE_TAG, s);
     if h != 0 {
         return h;
     }
@@ -71,7 +71,7 @@ pub fn read_record(bytes: &[u8], n: usize, m: usize) -> Reading
     if bytes.len() != SLICE_RECORD {
         return no_record(10);
     }
-    if rules::bad_size(n, m) {
+    if framing::bad_size(n, m) {
         return no_record(11);
     }
     let number = record_refusal(n, m, bytes);
@@ -95,7 +95,7 @@ pub fn write_record(slice: Record, n: usize, m: usize, part: &mut [u8]) -> Answe
             place: 0,
         };
     }
-    if rules::bad_size(n, m) {
+    if framing::bad_size(n, m) {
         return Answer::Refused {
             number: 11,
             place: 0,

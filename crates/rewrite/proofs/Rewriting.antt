@@ -10,10 +10,12 @@ use lib.Dec.{eqb}
 use lib.ListN.{length, take, drop, length-drop, take-append-drop}
 use lib.Seq.{sets, length-sets, sets-eq, take-all, take-add, take-at, take-append-add, length-take-le}
 use Rattle.slicefile.specs.Format.{sizeTag, sliceTag, endTag, recordLength, endRecord, byteAt, bodyOf, numberByte}
-use Rattle.rules.specs.Rules.{given, headerRefusal, badSize, bodyRefusal, sliceRefusal, sizeRefusal}
-use Rattle.rules.proofs.RecordLaws.{orElse-left, orElse-right, given-none, header-tells}
-use Rattle.rules.proofs.EndLaws.{end-bytes}
-use Rattle.rules.proofs.PrefixLaws.{slice-stays, slice-cut}
+use Rattle.rules.specs.Rules.{given, bodyRefusal}
+use Rattle.framing.specs.Framing.{headerRefusal, badSize, sliceRefusal, sizeRefusal}
+use Rattle.rules.proofs.Refusals.{orElse-left, orElse-right, given-none}
+use Rattle.framing.proofs.RecordLaws.{header-tells}
+use Rattle.framing.proofs.EndLaws.{end-bytes}
+use Rattle.framing.proofs.PrefixLaws.{slice-stays, slice-cut}
 use Rattle.fields.specs.Record.{Below}
 use Rattle.fields.proofs.Pieces.{piece, join, piece-byte}
 use Rattle.records.specs.Calls.{recordRefusal, readRefusal}

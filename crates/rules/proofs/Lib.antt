@@ -1,3 +1,1 @@
-pub mod RecordLaws
-pub mod EndLaws
-pub mod PrefixLaws
+pub mod Refusals

@@ -1,11 +1,10 @@
--- Refusals 1 to 7: what is wrong with a record, in the paper's order.
+-- Rules 4 to 7: what is wrong with a slice's body, in the paper's order.
 use Prim.Native.Nat.{ℕ, zero, suc, _+_, _%_, _^_}
 use mathlib.Core.Bool.{Bool, true, false, not, _&&_, _||_}
 use mathlib.Core.List.{List}
 use lib.Dec.{leb, ltb, eqb}
-use lib.ListN.{length}
 use Rattle.slicefile.specs.Lists.{anyBelow}
-use Rattle.slicefile.specs.Format.{sliceLimit, inputLimit, sizeTag, sliceTag, endTag, headLength, bodyLength, recordLength, byteAt, pairAt, bodyOf, numberByte, kind, mode, shiftData, contentsWord, carryData, carryStart, muxChoice, mainInput, secondInput, setResetUsed, pinCount, pinCode}
+use Rattle.slicefile.specs.Format.{numberByte, kind, mode, shiftData, contentsWord, carryData, carryStart, muxChoice, mainInput, secondInput, setResetUsed, pinCount, pinCode}
 use Rattle.slicefile.specs.Driver.{driverOf}
 use Rattle.slicefile.specs.declared.Decoded.{Decoded}
 use Rattle.slicefile.specs.declared.Decoded.the-variants.{Driven, Missing}
@@ -20,19 +19,6 @@ infixr 20 _orElse_
 abbrev pub _orElse_ : ℕ → ℕ → ℕ
 zero orElse b = b
 (suc a) orElse b = suc a
-
--- "header whole (1), tag known (2), due (4), length (3), body whole (1)", of the record that begins the list
-unfoldable pub headerRefusal : ℕ → List ℕ → ℕ
-headerRefusal due s =
-    given 1 (ltb (length s) headLength)
-    orElse given 2 (not (leb sizeTag (byteAt s 0) && leb (byteAt s 0) endTag))
-    orElse given 4 (not (eqb (byteAt s 0) due))
-    orElse given 3 (not (eqb (pairAt s 1) (bodyLength due)))
-    orElse given 1 (ltb (length s) (recordLength due))
-
--- rule 5 for the size record: "n, m outside its list"
-unfoldable pub badSize : ℕ → ℕ → Bool
-badSize n m = eqb n 0 || ltb sliceLimit n || ltb inputLimit m
 
 -- rule 5 for a letter, and for a slice: "a choice outside its list"
 unfoldable pub letterChoice : List ℕ → ℕ → Bool
@@ -81,11 +67,3 @@ bodyRefusal n m number body =
     orElse given 5 (badChoice body)
     orElse given 6 (badCombination number body)
     orElse given 7 (badDriver n m body)
-
--- the record of the slice of a number, which begins the list
-unfoldable pub sliceRefusal : ℕ → ℕ → ℕ → List ℕ → ℕ
-sliceRefusal n m number s = headerRefusal sliceTag s orElse bodyRefusal n m number (bodyOf sliceTag s)
-
--- the size record, which begins the file
-unfoldable pub sizeRefusal : List ℕ → ℕ
-sizeRefusal s = headerRefusal sizeTag s orElse given 5 (badSize (byteAt s 3) (byteAt s 4))

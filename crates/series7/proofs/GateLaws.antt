@@ -9,7 +9,8 @@ use Rattle.netlist.specs.declared.Source.{Source}
 use Rattle.netlist.specs.declared.Gate.{Gate}
 use Rattle.slicefile.specs.Format.{mode, carryData, carryStart, muxChoice, pinCode, bypassPin}
 use Rattle.slicefile.proofs.DriverLaws.{driver-cases}
-use Rattle.series7.specs.Signals.{outputSignal, decodedSource, pinSource, muxSignal, pinsOf, o6Gate, o5Gate, mc31Gate, startSource, carryIn, carrySource, byBypass, wideGate, familyOf, familyGate, sliceGate}
+use Rattle.sources.specs.Sources.{outputSignal, decodedSource, pinSource}
+use Rattle.series7.specs.Signals.{muxSignal, pinsOf, o6Gate, o5Gate, mc31Gate, startSource, carryIn, carrySource, byBypass, wideGate, familyOf, familyGate, sliceGate}
 use Rattle.series7.specs.declared.Family.{Family}
 use Rattle.series7.specs.declared.Family.the-variants.{O6, O5, Carry, Sum, Wide, Mux, Main, Second}
 

@@ -9,7 +9,7 @@ use Rattle.netlist.specs.Rule.{bitAt, number}
 use Rattle.netlist.specs.declared.Source.{Source}
 use Rattle.netlist.specs.declared.Source.the-variants.{Constant}
 use Rattle.slicefile.specs.Format.{mode, shiftData, mainInput, secondInput, setResetValues, setResetUsed, lutPin, bypassPin, clockEnablePin, setResetPin, writeEnablePin}
-use Rattle.series7.specs.Signals.{pinSource, own, wideSignal}
+use Rattle.sources.specs.Sources.{pinSource, own, wideSignal}
 
 -- what the main flip-flop of a letter takes: "0 O6, 1 O5, 2 sum, 3 carry, 4 wide, 5 bypass pin"
 unfoldable pub mainSource : ℕ → ℕ → ℕ → List ℕ → ℕ → Source

@@ -3,15 +3,10 @@ ghost use mathlib.Core.Path.{_≡_};
 ghost use Prim.Native.Nat.{_+_, _*_, _<_, _≤_};
 ghost use lib.ListN.{length};
 ghost use Rattle.slicefile.specs.Format.{carryStart, muxChoice, bypassPin};
-ghost use Rattle.slicefile.specs.Driver.{Within, DecodedWithin};
-ghost use Rattle.series7.specs.Signals.{columnLimit, outputSignal, driverSource, decodedSource, pinSource, own, wideSignal, muxSignal, pinsOf, o6Gate, o5Gate, mc31Gate, startSource, carryIn, carrySource, byBypass, wideGate, familyOf, familyGate, sliceGate};
+ghost use Rattle.sources.specs.Sources.{columnLimit, pinSource, own};
+ghost use Rattle.series7.specs.Signals.{muxSignal, pinsOf, o6Gate, o5Gate, mc31Gate, startSource, carryIn, carrySource, byBypass, wideGate, familyOf, familyGate, sliceGate};
 use netlist::Gate;
 use netlist::Source;
-use slicefile::Decoded;
-use slicefile::Driver;
-use slicefile::Output;
-use slicefile::decode_driver;
-use slicefile::pair_at;
 
 // The six pins of a look-up table.
 pub struct Pins {
@@ -35,63 +30,6 @@ pub enum Family {
     Second,
 }
 
-fn output_signal(k: usize) -> usize
-    requires { ⌜ k < 12 ⌝ }
-    ensures { λ r. ⌜ (r ≡ outputSignal k) × (r < 32) ⌝ }
-{
-    if k < 4 {
-        return k;
-    }
-    k + 16
-}
-
-// The signal that is an output of a slice.
-fn output_source(o: Output) -> Source
-    requires { ⌜ (o .slice < columnLimit) × (o .output < 12) ⌝ }
-    ensures { λ r. ⌜ r ≡ Source.Signal (32 * o .slice + outputSignal (o .output)) ⌝ }
-{
-    let slice = o.slice;
-    let output = o.output;
-    Source::Signal(32 * slice + output_signal(output))
-}
-
-fn driver_source(d: Driver) -> Source
-    requires { ⌜ Within columnLimit d ⌝ }
-    ensures { λ r. ⌜ r ≡ driverSource d ⌝ }
-{
-    match d {
-        Driver::Constant(b) => Source::Constant(b),
-        Driver::Input(j) => Source::Input(j),
-        Driver::Output(o) => output_source(o),
-    }
-}
-
-fn decoded_source(d: Decoded) -> Source
-    requires { ⌜ DecodedWithin columnLimit d ⌝ }
-    ensures { λ r. ⌜ r ≡ decodedSource d ⌝ }
-{
-    match d {
-        Decoded::Driven(v) => driver_source(v),
-        Decoded::Missing => Source::Constant(false),
-    }
-}
-
-// Where pin p of a slice takes its bit from.
-pub fn pin_source(n: usize, m: usize, body: &[u8], p: usize) -> Source
-    requires { ⌜ (length (now body) ≡ 124) × (p < 31) × (n ≤ columnLimit) ⌝ }
-    ensures { λ r. ⌜ r ≡ pinSource n m (now (body .entry)) p ⌝ }
-{
-    decoded_source(decode_driver(pair_at(body, 62 + 2 * p), n, m))
-}
-
-// Signal k of slice s.
-pub fn own(s: usize, k: usize) -> Source
-    requires { ⌜ (s < columnLimit) × (k < 32) ⌝ }
-    ensures { λ r. ⌜ r ≡ own s k ⌝ }
-{
-    Source::Signal(32 * s + k)
-}
-
 // Where a slice's carry chain starts.
 fn start_source(n: usize, m: usize, s: usize, body: &[u8]) -> Source
     requires { ⌜ (length (now body) ≡ 124) × (n ≤ columnLimit) × (s < columnLimit) ⌝ }
@@ -105,12 +43,12 @@ fn start_source(n: usize, m: usize, s: usize, body: &[u8]) -> Source
         return Source::Constant(true);
     }
     if choice == 2 {
-        return pin_source(n, m, body, 24);
+        return sources::pin_source(n, m, body, 24);
     }
     if s == 0 {
-        return own(0, 11);
+        return sources::own(0, 11);
     }
-    own(s - 1, 11)
+    sources::own(s - 1, 11)
 }
 
 // The carry coming into a letter.
@@ -121,7 +59,7 @@ fn carry_in(n: usize, m: usize, s: usize, body: &[u8], l: usize) -> Source
     if l == 0 {
         return start_source(n, m, s, body);
     }
-    own(s, 7 + l)
+    sources::own(s, 7 + l)
 }
 
 // A letter's carry data.
@@ -130,9 +68,9 @@ fn carry_source(n: usize, m: usize, s: usize, body: &[u8], l: usize) -> Source
     ensures { λ r. ⌜ r ≡ carrySource n m s (now (body .entry)) l ⌝ }
 {
     if body[42 + l] == 0 {
-        return own(s, 4 + l);
+        return sources::own(s, 4 + l);
     }
-    pin_source(n, m, body, 24 + l)
+    sources::pin_source(n, m, body, 24 + l)
 }
 
 // The six pins of a letter's table.
@@ -140,12 +78,12 @@ fn table_pins(n: usize, m: usize, body: &[u8], l: usize) -> Pins
     requires { ⌜ (length (now body) ≡ 124) × (n ≤ columnLimit) × (l < 4) ⌝ }
     ensures { λ r. ⌜ r ≡ pinsOf n m (now (body .entry)) l ⌝ }
 {
-    let p1 = pin_source(n, m, body, 6 * l);
-    let p2 = pin_source(n, m, body, 6 * l + 1);
-    let p3 = pin_source(n, m, body, 6 * l + 2);
-    let p4 = pin_source(n, m, body, 6 * l + 3);
-    let p5 = pin_source(n, m, body, 6 * l + 4);
-    let p6 = pin_source(n, m, body, 6 * l + 5);
+    let p1 = sources::pin_source(n, m, body, 6 * l);
+    let p2 = sources::pin_source(n, m, body, 6 * l + 1);
+    let p3 = sources::pin_source(n, m, body, 6 * l + 2);
+    let p4 = sources::pin_source(n, m, body, 6 * l + 3);
+    let p5 = sources::pin_source(n, m, body, 6 * l + 4);
+    let p6 = sources::pin_source(n, m, body, 6 * l + 5);
     Pins {
         p1,
         p2,
@@ -232,9 +170,9 @@ fn by_bypass(n: usize, m: usize, s: usize, body: &[u8], l: usize, one: usize, ot
     requires { ⌜ (length (now body) ≡ 124) × (n ≤ columnLimit) × (s < columnLimit) × (l < 4) × (one < 32) × (other < 32) ⌝ }
     ensures { λ r. ⌜ r ≡ byBypass n m s (now (body .entry)) l one other ⌝ }
 {
-    let select = pin_source(n, m, body, 24 + l);
-    let a = own(s, one);
-    let b = own(s, other);
+    let select = sources::pin_source(n, m, body, 24 + l);
+    let a = sources::own(s, one);
+    let b = sources::own(s, other);
     Gate::Select {
         select,
         one: a,
@@ -308,7 +246,7 @@ fn carry_gate(n: usize, m: usize, s: usize, body: &[u8], l: usize) -> Gate
     requires { ⌜ (length (now body) ≡ 124) × (n ≤ columnLimit) × (s < columnLimit) × (l < 4) ⌝ }
     ensures { λ r. ⌜ r ≡ familyGate n m s (now (body .entry)) Family.Carry l ⌝ }
 {
-    let select = own(s, l);
+    let select = sources::own(s, l);
     let one = carry_in(n, m, s, body, l);
     let zero = carry_source(n, m, s, body, l);
     Gate::Select { select, one, zero }
@@ -318,24 +256,9 @@ fn sum_gate(n: usize, m: usize, s: usize, body: &[u8], l: usize) -> Gate
     requires { ⌜ (length (now body) ≡ 124) × (n ≤ columnLimit) × (s < columnLimit) × (l < 4) ⌝ }
     ensures { λ r. ⌜ r ≡ familyGate n m s (now (body .entry)) Family.Sum l ⌝ }
 {
-    let a = own(s, l);
+    let a = sources::own(s, l);
     let b = carry_in(n, m, s, body, l);
     Gate::Xor(a, b)
-}
-
-pub fn wide_signal(l: usize) -> usize
-    ensures { λ r. ⌜ (r ≡ wideSignal l) × (r < 32) ⌝ }
-{
-    if l == 0 {
-        return 16;
-    }
-    if l == 1 {
-        return 18;
-    }
-    if l == 2 {
-        return 17;
-    }
-    19
 }
 
 fn mux_signal(l: usize, choice: u8) -> usize
@@ -352,7 +275,7 @@ fn mux_signal(l: usize, choice: u8) -> usize
         return 8 + l;
     }
     if choice == 3 {
-        return wide_signal(l);
+        return sources::wide_signal(l);
     }
     28 + l
 }
@@ -362,7 +285,7 @@ fn mux_gate(s: usize, body: &[u8], l: usize) -> Gate
     ensures { λ r. ⌜ r ≡ Gate.Same (own s (muxSignal l (muxChoice (now (body .entry)) l))) ⌝ }
 {
     let k = mux_signal(l, body[47 + l]);
-    Gate::Same(own(s, k))
+    Gate::Same(sources::own(s, k))
 }
 
 // The gate of signal k of slice s, whose record has that body, in a file of n slices and m outside inputs.

@@ -1,4 +1,2 @@
-pub mod Filling
-pub mod Calls
 pub mod Moving
 pub mod Demands

@@ -11,9 +11,10 @@ use lib.ListN.{length, getD, set, length-set}
 use lib.Seq.{getD-set-other}
 use Rattle.netlist.specs.Rule.{valueOf}
 use Rattle.netlist.specs.declared.Source.the-variants.{Constant}
-use Rattle.rules.specs.Rules.{bodyRefusal, sliceRefusal, headerRefusal}
+use Rattle.rules.specs.Rules.{bodyRefusal}
+use Rattle.framing.specs.Framing.{sliceRefusal, headerRefusal}
 use Rattle.slicefile.specs.Format.{sliceTag}
-use Rattle.rules.proofs.RecordLaws.{orElse-right}
+use Rattle.rules.proofs.Refusals.{orElse-right}
 use Rattle.series7.specs.Edge.{nextFlops, nextWord}
 use Rattle.moves.specs.Moved.{Moved}
 use Rattle.edge.specs.Numbers.{edgeNumbers}
@@ -22,7 +23,7 @@ use Rattle.moves.proofs.Laws.{flops-law, word-law}
 use Rattle.column.specs.Clock.{stateOf, clocked}
 use Rattle.column.specs.File.{sliceBody}
 use Rattle.column.proofs.SoundLaws.{SoundFile}
-use Rattle.simulator.proofs.Filling.{Filled, filled-next, filled-all}
+use Rattle.calls.proofs.Filling.{Filled, filled-next, filled-all}
 
 module _ (file : List ℕ) (n m : ℕ) (inputs values words bytes : List ℕ) where
   -- word t and flip-flop byte s after the edge

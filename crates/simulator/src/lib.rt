@@ -1,85 +1,16 @@
-// The calls on a slice file and lent buffers that run it: power up, settle, clock.
+// The calls on a slice file and lent buffers that run it: settle and clock.
 ghost use mathlib.Core.Path.{_≡_};
 ghost use Prim.Native.Nat.{_*_};
 ghost use lib.ListN.{length};
 ghost use Rattle.column.specs.Check.{checkFile};
-ghost use Rattle.column.specs.Clock.{stateOf, powerUp, clocked};
-ghost use Rattle.column.specs.Judge.{Judged};
-ghost use Rattle.simulator.specs.Calls.{refusalOf, Ready, PoweredUp, SettleCalled, ClockCalled};
+ghost use Rattle.column.specs.Clock.{stateOf, clocked};
+ghost use Rattle.calls.specs.Calls.{Ready};
+ghost use Rattle.simulator.specs.Running.{SettleCalled, ClockCalled};
 use column::Checked;
 use column::TABLE_LIMIT;
 use column::Verdict;
 use netlist::SIGNAL_LIMIT;
 use slicefile::Answer;
-
-// The judge's refusal as the answer of a call.
-pub fn refusal(v: Verdict) -> Answer
-    ensures { λ r. ⌜ r ≡ refusalOf v ⌝ }
-{
-    match v {
-        Verdict::Refused { number, place } => Answer::Refused { number, place },
-        Verdict::Accepted { n: _, m: _ } => Answer::Done,
-    }
-}
-
-// Fills the contents with those of a sound file.
-fn fill_contents(file: &[u8], n: usize, m: usize, contents: &mut [u64])
-    requires { ⌜ (checkFile (now file) ≡ Checked.Sound n m) × (length (now contents) ≡ 4 * n) ⌝ }
-    ensures { λ _. ⌜ now (contents .exit) ≡ powerUp (now (file .entry)) .contents ⌝ }
-{
-    let mut t = 0;
-    while t < 4 * n {
-        let body = column::slice_body(file, n, m, t / 4);
-        contents[t] = slicefile::contents_word(body, t % 4);
-        t += 1;
-    }
-}
-
-// Fills the flip-flops with the power-up bits of a sound file.
-fn fill_flops(file: &[u8], n: usize, m: usize, flops: &mut [u8])
-    requires { ⌜ (checkFile (now file) ≡ Checked.Sound n m) × (length (now flops) ≡ n) ⌝ }
-    ensures { λ _. ⌜ now (flops .exit) ≡ powerUp (now (file .entry)) .flops ⌝ }
-{
-    let mut s = 0;
-    while s < n {
-        let body = column::slice_body(file, n, m, s);
-        flops[s] = body[59];
-        s += 1;
-    }
-}
-
-// Powers up an accepted file.
-fn power_up_accepted(
-    file: &[u8],
-    n: usize,
-    m: usize,
-    contents: &mut [u64],
-    flops: &mut [u8],
-) -> Answer
-    requires { ⌜ Judged (now file) (Verdict.Accepted n m) ⌝ }
-    ensures { λ r. ⌜ PoweredUp (now (file .entry)) (stateOf (now (contents .entry)) (now (flops .entry))) (stateOf (now (contents .exit)) (now (flops .exit))) r ⌝ }
-{
-    if buffers::bad_state(n, contents, flops) {
-        return Answer::Refused {
-            number: 10,
-            place: 0,
-        };
-    }
-    fill_contents(file, n, m, contents);
-    fill_flops(file, n, m, flops);
-    Answer::Done
-}
-
-// Fills 4n words of contents and n flip-flop bytes with the state at power-up.
-pub fn power_up(file: &[u8], contents: &mut [u64], flops: &mut [u8]) -> Answer
-    ensures { λ r. ⌜ PoweredUp (now (file .entry)) (stateOf (now (contents .entry)) (now (flops .entry))) (stateOf (now (contents .exit)) (now (flops .exit))) r ⌝ }
-{
-    let v = column::judge(file);
-    let Verdict::Accepted { n, m } = v else {
-        return refusal(v);
-    };
-    power_up_accepted(file, n, m, contents, flops)
-}
 
 // Settles an accepted file.
 fn settle_accepted(
@@ -121,7 +52,7 @@ pub fn settle(
     let mut order = [0u16; SIGNAL_LIMIT];
     let v = column::load(file, &mut net, &mut order);
     let Verdict::Accepted { n, m } = v else {
-        return refusal(v);
+        return calls::refusal(v);
     };
     settle_accepted(file, n, m, &net, &order, contents, flops, inputs, values)
 }
@@ -186,7 +117,7 @@ pub fn clock(
     let mut order = [0u16; SIGNAL_LIMIT];
     let v = column::load(file, &mut net, &mut order);
     let Verdict::Accepted { n, m } = v else {
-        return refusal(v);
+        return calls::refusal(v);
     };
     clock_accepted(file, n, m, &net, &order, contents, flops, inputs, values)
 }

@@ -4,7 +4,7 @@ use Prim.Native.Nat.{ℕ}
 use borrow.Author.Needs.{needs}
 use borrow.Author.Tests.{lt-ltb, le-ltb, eqb-true, eqb-false}
 use Rattle.slicefile.specs.Format.{endTag}
-use Rattle.rules.specs.Rules.{headerRefusal}
+use Rattle.framing.specs.Framing.{headerRefusal}
 use Rattle.column.specs.Check.{checkEnd}
 use Rattle.column.specs.declared.Checked.the-variants.{Bad}
 use Rattle.column.proofs.CheckLaws.{bad-first}

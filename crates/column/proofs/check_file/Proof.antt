@@ -6,8 +6,8 @@ use native.Mathlib.Omega.{arith}
 use borrow.Author.Needs.{needs}
 use lib.ListN.{length, getD, drop}
 use Rattle.slicefile.specs.Format.{sliceTag, recordLength}
-use Rattle.rules.specs.Rules.{sizeRefusal, sliceRefusal}
-use Rattle.rules.proofs.RecordLaws.{size-whole}
+use Rattle.framing.specs.Framing.{sizeRefusal, sliceRefusal}
+use Rattle.framing.proofs.RecordLaws.{size-whole}
 use Rattle.column.specs.File.{recordStart}
 use Rattle.column.specs.Check.{checkSlices, checkFile}
 use Rattle.column.specs.declared.Checked.the-variants.{Bad}

@@ -9,7 +9,7 @@ use lib.ListN.{List·getD-eq-default}
 use Rattle.netlist.specs.declared.Source.the-variants.{Constant}
 use Rattle.netlist.specs.Table.{codeOf}
 use Rattle.slicefile.specs.Format.{mainInput, bypassPin}
-use Rattle.series7.specs.Signals.{own, pinSource, wideSignal}
+use Rattle.sources.specs.Sources.{own, pinSource, wideSignal}
 use Rattle.series7.specs.Edge.{mainSource}
 use Rattle.edge.proofs.main_code.Statement.{statement}
 use Rattle.edge.proofs.main_code.Tie as tie

@@ -8,7 +8,7 @@ use Rattle.netlist.specs.Table.{codeOf}
 use Rattle.netlist.specs.declared.Source.{Source}
 use Rattle.netlist.proofs.Table.{code-fits}
 use Rattle.slicefile.specs.Format.{sliceLimit}
-use Rattle.series7.specs.Signals.{own}
+use Rattle.sources.specs.Sources.{own}
 use Rattle.edge.proofs.own_code.Statement.{statement}
 use Rattle.edge.proofs.own_code.Tie as tie
 

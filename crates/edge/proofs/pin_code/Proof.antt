@@ -7,7 +7,7 @@ use Rattle.netlist.specs.Table.{codeOf}
 use Rattle.netlist.specs.declared.Source.{Source}
 use Rattle.netlist.proofs.Table.{code-fits}
 use Rattle.netlist.proofs.Fitting.{source-more}
-use Rattle.series7.specs.Signals.{pinSource}
+use Rattle.sources.specs.Sources.{pinSource}
 use Rattle.series7.proofs.GateLaws.{pin-fits}
 use Rattle.edge.proofs.pin_code.Statement.{statement}
 use Rattle.edge.proofs.pin_code.Tie as tie

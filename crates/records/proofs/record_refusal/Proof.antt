@@ -4,8 +4,9 @@ use native.Mathlib.Omega.{arith}
 use borrow.Author.Needs.{needs}
 use borrow.Author.Tests.{lt-ltb, le-ltb}
 use Rattle.slicefile.specs.Format.{sliceTag}
-use Rattle.rules.specs.Rules.{headerRefusal}
-use Rattle.rules.proofs.RecordLaws.{orElse-first, header-whole}
+use Rattle.framing.specs.Framing.{headerRefusal}
+use Rattle.rules.proofs.Refusals.{orElse-first}
+use Rattle.framing.proofs.RecordLaws.{header-whole}
 use Rattle.records.specs.Calls.{recordRefusal}
 use Rattle.records.proofs.record_refusal.Statement.{statement}
 use Rattle.records.proofs.record_refusal.Tie as tie

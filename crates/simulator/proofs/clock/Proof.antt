@@ -1,8 +1,8 @@
 -- `simulator::clock` meets its contract: the judge's refusal is handed on. Assumes nothing.
 use mathlib.Core.Path.{refl}
 use borrow.Author.Needs.{needs}
-use Rattle.simulator.specs.Calls.{judged}
-use Rattle.simulator.proofs.Calls.{loaded-ready, loaded-refused}
+use Rattle.calls.specs.Calls.{judged}
+use Rattle.calls.proofs.Calls.{loaded-ready, loaded-refused}
 use Rattle.simulator.proofs.clock.Statement.{statement}
 use Rattle.simulator.proofs.clock.Tie as tie
 
