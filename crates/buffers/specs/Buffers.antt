@@ -1,6 +1,7 @@
 -- Refusals 10 and 11: what is wrong with the buffers and arguments lent to a call, for a file of n slices and m outside inputs.
 use Prim.Native.Nat.{ℕ, _*_, _/_, _%_, _^_}
-use mathlib.Core.Bool.{Bool, not, _&&_, _||_}
+use mathlib.Core.Path.{_≡_}
+use mathlib.Core.Bool.{Bool, false, not, _&&_, _||_}
 use mathlib.Core.List.{List}
 use lib.Dec.{eqb, ltb, leb}
 use lib.ListN.{length, getD}
@@ -46,3 +47,13 @@ badInput m input byte = leb m input || ltb 1 byte
 -- "a table, numbered as its word, below 4n", and contents that its mode allows
 abbrev pub badTable : List ℕ → ℕ → ℕ → ℕ → Bool
 badTable file n table word = leb (4 * n) table || badWord file table word
+
+-- what a call leaves for the next one on the file: a state, inputs and values that none of them refuses
+abbrev pub GoodState : List ℕ → ℕ → State → Type 0
+GoodState file n st = (badState n st ≡ false) × (badWords file (st .contents) ≡ false)
+
+abbrev pub GoodInputs : ℕ → List ℕ → Type 0
+GoodInputs m inputs = (length inputs ≡ m) × (badBytes inputs ≡ false)
+
+abbrev pub GoodValues : ℕ → List ℕ → Type 0
+GoodValues n values = (length values ≡ signalCount n) × (badBytes values ≡ false)

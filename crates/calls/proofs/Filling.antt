@@ -22,12 +22,12 @@ filled-next f k l v h e p i b = by-place (decLt i k)
         let z : i ≡ k = omega arith in
         rw z (getD-set-same l k v 0 h ∙ e)
 
-tabulate-length : (i k : ℕ) (f : ℕ → ℕ) → length (tabulate i k f) ≡ k
+pub tabulate-length : (i k : ℕ) (f : ℕ → ℕ) → length (tabulate i k f) ≡ k
 unfolding tabulate
 tabulate-length i zero f = refl
 tabulate-length i (suc k) f = ap suc (tabulate-length (suc i) k f)
 
-tabulate-at : (i k : ℕ) (f : ℕ → ℕ) (j : ℕ) → j < k → getD (tabulate i k f) j 0 ≡ f (i + j)
+pub tabulate-at : (i k : ℕ) (f : ℕ → ℕ) (j : ℕ) → j < k → getD (tabulate i k f) j 0 ≡ f (i + j)
 unfolding tabulate
 tabulate-at i zero f j h = absurd (omega arith)
 tabulate-at i (suc k) f zero h = rw add-zero

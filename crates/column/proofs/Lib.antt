@@ -5,4 +5,5 @@ pub mod PrefixLaws
 pub mod Certificates
 pub mod Runs
 pub mod Netlist
+pub mod Tables
 pub mod WorkedCases

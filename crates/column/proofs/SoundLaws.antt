@@ -9,9 +9,9 @@ use lib.Dec.{ltb}
 use lib.ListN.{length, take, drop, length-drop}
 use lib.Seq.{drop-drop, length-take-le}
 use Rattle.slicefile.specs.Format.{sliceLimit, inputLimit, sliceTag, endTag, headLength, bodyLength, recordLength}
-use Rattle.rules.specs.Rules.{given}
+use Rattle.rules.specs.Rules.{given, bodyRefusal}
 use Rattle.framing.specs.Framing.{headerRefusal, sliceRefusal, sizeRefusal}
-use Rattle.rules.proofs.Refusals.{given-none}
+use Rattle.rules.proofs.Refusals.{given-none, orElse-right}
 use Rattle.framing.proofs.RecordLaws.{header-whole, slice-whole, size-whole, size-tells}
 use Rattle.column.specs.File.{sliceCount, inputCount, recordStart, fileLength, sliceBody}
 use Rattle.column.specs.Check.{firstBad, checkEnd, checkSlices, checkFile}
@@ -105,3 +105,8 @@ pub body-length : (file : List ℕ) {n m : ℕ} → SoundFile file n m → (s : 
 unfolding sliceBody
 body-length file f s l =
     length-take-le (bodyLength sliceTag) (drop headLength (drop (recordStart s) file)) (simp length-drop (omega (arith, f .size)))
+
+-- the body of a slice keeps the rules
+pub body-good : (file : List ℕ) {n m : ℕ} → SoundFile file n m → (s : ℕ) → s < n → bodyRefusal n m s (sliceBody file s) ≡ 0
+unfolding sliceRefusal sliceBody
+body-good file f s l = orElse-right (headerRefusal sliceTag _) _ (f .each s l)

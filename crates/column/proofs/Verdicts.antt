@@ -1,6 +1,7 @@
 -- `Judged` determines the verdict, and a loaded file is judged. Assumes nothing.
-use mathlib.Core.Path.{_≡_, ap, sym, subst}
+use mathlib.Core.Path.{_≡_, refl, ap, sym, subst}
 use mathlib.Core.List.{List}
+use mathlib.Core.Logic.{_↔_}
 use Prim.Native.Nat.{ℕ, _<_}
 use native.Mathlib.Decide.{decLt}
 use native.Mathlib.Omega.{arith}
@@ -16,6 +17,10 @@ use Rattle.column.specs.declared.Verdict.the-variants.{Refused, Accepted
 
 pub sound-not-bad : (c : Checked) {n m k p : ℕ} → c ≡ Sound n m → c ≡ Bad k p → ⊥
 sound-not-bad c e f = let z : _≡_ {A = ℕ} 0 1 = cc in omega arith
+
+-- a verdict is not both
+pub not-both : (v : Verdict) {k p n m : ℕ} → v ≡ Refused k p → v ≡ Accepted n m → ⊥
+not-both v e f = let z : _≡_ {A = ℕ} 0 1 = cc in omega arith
 
 same-count : (c : Checked) {n m i j : ℕ} → c ≡ Sound n m → c ≡ Sound i j → n ≡ i
 same-count c e f = cc
@@ -61,3 +66,28 @@ accepted-sound file (accepted e free) = e
 
 pub accepted-free : (file : List ℕ) {n m : ℕ} → Judged file (Accepted n m) → LoopFree (readsAt file) (signalCount n)
 accepted-free file (accepted e free) = free
+
+-- ---- demand 1: "a loop of wires is refused exactly when there is one, once the file is otherwise sound"
+module _ (file : List ℕ) {n m : ℕ} (sound : checkFile file ≡ Sound n m) where
+  -- some signal of the file is on a loop
+  abbrev pub Looped : Type 0
+  Looped = (x : ℕ) × (x < signalCount n) × Loop file x
+
+  -- the judge answers 9 exactly when some signal is on a loop
+  pub nine-exactly : {v : Verdict} → Judged file v → ((p : ℕ) × (v ≡ Refused 9 p)) ↔ Looped
+  nine-exactly (bad e) = absurd (sound-not-bad (checkFile file) sound e)
+  nine-exactly (accepted {n = i} {m = j} e free) =
+      (
+        λ r. absurd (not-both (Refused 9 (r .0)) refl (sym (r .1))),
+        λ l. absurd (no-signal (checkFile file) (Loop file) e sound free (l .1) (l .2)),
+      )
+  nine-exactly (loop {p = p} e below on least) =
+      (
+        λ r. (p, subst (λ (k : ℕ). p < signalCount k) (same-count (checkFile file) e sound) below, on),
+        λ l. (p, refl),
+      )
+
+  -- and gives no other refusal
+  pub sound-nine : {k p : ℕ} → Judged file (Refused k p) → k ≡ 9
+  sound-nine (bad e) = absurd (sound-not-bad (checkFile file) sound e)
+  sound-nine (loop e below on least) = refl

@@ -21,7 +21,7 @@ use Rattle.column.specs.File.{sliceCount, sliceBody, signalCount, gateAt
 use Rattle.column.specs.Check.{checkEnd, checkSlices, checkFile}
 use Rattle.column.specs.Judge.{readsAt, Judged, bad, accepted, loop}
 use Rattle.column.specs.Clock.{State, envOf, powerUp, clocked, SettledFor, Run}
-use Rattle.column.specs.Cases.{fileOf, Outcome, Judgement, Ones, After, Row, onesAt, names, noInputs, LeavesWord, Gives, Holds, cases, upFrom}
+use Rattle.column.specs.Cases.{fileOf, Outcome, Judgement, Ones, After, Row, onesAt, names, noInputs, LeavesWord, Gives, Holds, Every, cases, upFrom}
 use Rattle.column.specs.declared.Checked.{Checked}
 use Rattle.column.specs.declared.Checked.the-variants.{Bad, Sound}
 use Rattle.column.specs.declared.Verdict.{Verdict}
@@ -195,11 +195,6 @@ holds-by r h t =
     let a = judgedOk file (r .verdict) h in
     let b = givesOk file (r .outcome) h in
     record { judged = judged-by file (r .verdict) h (and-left a b t); gives = gives-by file (r .outcome) h (and-right a b t) }
-
--- every row of a list holds
-abbrev pub Every : List Row → Type 0
-Every [] = Unit {0}
-Every (r ∷ rs) = Holds r × Every rs
 
 every-by : (rs : List Row) (hs : List Hint) → T (allOk rs hs) → Every rs
 unfolding allOk

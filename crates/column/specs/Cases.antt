@@ -95,6 +95,11 @@ pub record Holds (r : Row) : Type 0 where
   pub judged : Judged (fileOf (r .edits)) (r .verdict)
   pub gives : Gives (fileOf (r .edits)) (r .outcome)
 
+-- every row of a list holds: the cases' one statement is `Every cases`
+abbrev pub Every : List Row → Type 0
+Every [] = Unit {0}
+Every (r ∷ rs) = Holds r × Every rs
+
 abbrev pub row : List Edit → Verdict → Outcome → Row
 row es v o = record { edits = es; verdict = v; outcome = o }
 

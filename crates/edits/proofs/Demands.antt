@@ -1,38 +1,39 @@
--- What the promises of the edits come to: each settles its answer and every byte it leaves, and an edited table that was settled is the table settled
--- afresh. Assumes nothing.
+-- What the promises of the edits come to: each settles its answer and every byte it leaves; an edited table that was settled is the table settled
+-- afresh; and what an edit leaves is good for the next call. Assumes nothing.
 use mathlib.Core.Path.{_≡_, _∙_, sym}
 use mathlib.Core.Bool.{Bool}
 use mathlib.Core.List.{List}
-use Prim.Native.Nat.{ℕ}
-use lib.ListN.{length, set}
-use Rattle.netlist.specs.Graph.{WellFormed}
+use Prim.Native.Nat.{ℕ, _*_}
+use native.Mathlib.Omega.{arith}
+use borrow.Author.Tests.{ltb-false}
+use lib.Dec.{leb, ltb}
+use lib.ListN.{length, set, length-set}
 use Rattle.netlist.specs.Rule.{touchesInput, touchesTable}
+use Rattle.netlist.specs.Settle.{Settled}
 use Rattle.netlist.specs.declared.Gate.{Gate}
+use Rattle.netlist.proofs.Bits.{edited-bits}
 use Rattle.netlist.proofs.Net.{one-edited, input-edited, contents-edited}
 use Rattle.slicefile.specs.declared.Answer.{Answer}
 use Rattle.slicefile.specs.declared.Answer.the-variants.{Done}
+use Rattle.slicefile.proofs.Tests.{or-right}
 use Rattle.column.specs.Clock.{stateOf, State, envOf, SettledFor}
-use Rattle.column.specs.File.{sliceCount, signalCount, gateAt}
-use Rattle.column.specs.Judge.{readsAt, Judged}
+use Rattle.column.specs.File.{signalCount, gateAt}
+use Rattle.column.specs.Judge.{Judged}
 use Rattle.column.specs.declared.Verdict.the-variants.{Accepted}
-use Rattle.column.proofs.Netlist.{sound-well-formed}
-use Rattle.column.proofs.SoundLaws.{sound-file}
-use Rattle.column.proofs.Verdicts.{accepted-sound, accepted-free}
-use Rattle.buffers.specs.Buffers.{editRefusal, badInput, badTable}
-use Rattle.buffers.proofs.Lengths.{edit-lengths}
+use Rattle.column.proofs.Tables.{records-sound, closed, ordered, settled-once}
+use Rattle.column.proofs.Verdicts.{accepted-free}
+use Rattle.buffers.specs.Buffers.{badWord, editRefusal, badInput, badTable, GoodState, GoodInputs, GoodValues}
+use Rattle.buffers.proofs.Good.{bytes-good, good-bytes, set-bytes, set-words, state-good, edit-tells}
+use Rattle.buffers.proofs.Lengths.{state-lengths, edit-lengths, edit-argument}
 use Rattle.calls.specs.Calls.{done}
-use Rattle.calls.proofs.Demands.{agree}
+use Rattle.calls.proofs.Demands.{same-sizes, agree}
 use Rattle.edits.specs.Edits.{EditedFor, InputEdited, TableEdited}
 
--- the netlist of an accepted file has no loop and reads only its own signals
 module _ (file : List ℕ) {n m : ℕ} (j : Judged file (Accepted n m)) where
-  closed : WellFormed (readsAt file) (signalCount n)
-  closed = sound-well-formed file (sound-file file (accepted-sound file j))
-
   edited-once : (touches : Gate → Bool) (st : State) (inputs old new new′ : List ℕ) → length old ≡ signalCount n → EditedFor file touches st inputs old new n
       → EditedFor file touches st inputs old new′ n → new ≡ new′
   edited-once touches st inputs old new new′ size d d′ =
-      one-edited (gateAt file) (signalCount n) closed (accepted-free file j) (envOf st inputs) (λ x. touches (gateAt file x)) old new new′ size d d′
+      one-edited (gateAt file) (signalCount n) (closed file j) (accepted-free file j) (envOf st inputs) (λ x. touches (gateAt file x)) old new new′ size d d′
 
 pub input-edit-unique : (file : List ℕ) (st : State) (input byte : ℕ) (inputs left left′ old new new′ : List ℕ) {r r′ : Answer}
     → InputEdited file st input byte inputs left old new r → InputEdited file st input byte inputs left′ old new′ r′ → (r ≡ r′) × ((left ≡ left′) × (new ≡ new′))
@@ -55,27 +56,72 @@ table-edit-unique file contents left left′ flops table word inputs old new new
 
 -- ---- demand 3: "if the table was settled before .. each byte of the table as left equals that of the table settled afresh after the change". That what
 -- doesn't depend on the change keeps its byte, and what does holds its rule, on any table, is `Edited` itself
+
+-- the one table that is settled for a file, a state and inputs
+abbrev pub SettledAfresh : List ℕ → State → List ℕ → List ℕ → Type 0
+SettledAfresh file st inputs t = SettledFor file st inputs t × ((fresh : List ℕ) → SettledFor file st inputs fresh → t ≡ fresh)
+
 module _ (file : List ℕ) {n m : ℕ} (j : Judged file (Accepted n m)) where
-  count : sliceCount file ≡ n
-  count = sound-file file (accepted-sound file j) .count
+  afresh : (st : State) (inputs t : List ℕ) → Settled (gateAt file) (signalCount n) (envOf st inputs) t → SettledAfresh file st inputs t
+  afresh st inputs t s =
+      let here : SettledFor file st inputs t = rw (records-sound file j .count) s in
+      (here, λ fresh after. settled-once file j st inputs t fresh here after)
 
-  input-settles : (st : State) (input byte : ℕ) (inputs left old new fresh : List ℕ) → left ≡ set inputs input byte → EditedFor file (touchesInput input) st left old new n
-      → SettledFor file st inputs old → SettledFor file st left fresh → new ≡ fresh
-  input-settles st input byte inputs left old new fresh e d before after =
-      input-edited (gateAt file) (signalCount n) (closed file j) (accepted-free file j) (envOf st inputs) input byte old new fresh (rw count at before) (rw e at d) (rw (count, e) at after)
+  input-settles : (st : State) (input byte : ℕ) (inputs left old new : List ℕ) → left ≡ set inputs input byte → EditedFor file (touchesInput input) st left old new n
+      → SettledFor file st inputs old → SettledAfresh file st left new
+  input-settles st input byte inputs left old new e d before =
+      let s = input-edited (gateAt file) (signalCount n) (closed file j) (accepted-free file j) (envOf st inputs) input byte old new (rw (records-sound file j .count) at before) (rw e at d) in
+      rw e (afresh st (set inputs input byte) new s)
 
-  table-settles : (contents left flops : List ℕ) (table word : ℕ) (inputs old new fresh : List ℕ) → left ≡ set contents table word
+  table-settles : (contents left flops : List ℕ) (table word : ℕ) (inputs old new : List ℕ) → left ≡ set contents table word
       → EditedFor file (touchesTable table) (stateOf left flops) inputs old new n → SettledFor file (stateOf contents flops) inputs old
-      → SettledFor file (stateOf left flops) inputs fresh → new ≡ fresh
-  table-settles contents left flops table word inputs old new fresh e d before after =
-      contents-edited (gateAt file) (signalCount n) (closed file j) (accepted-free file j) (envOf (stateOf contents flops) inputs) table word old new fresh (rw count at before) (rw e at d) (rw (count, e) at after)
+      → SettledAfresh file (stateOf left flops) inputs new
+  table-settles contents left flops table word inputs old new e d before =
+      let s = contents-edited (gateAt file) (signalCount n) (closed file j) (accepted-free file j) (envOf (stateOf contents flops) inputs) table word old new (rw (records-sound file j .count) at before) (rw e at d) in
+      rw e (afresh (stateOf (set contents table word) flops) inputs new s)
 
-pub input-edit-settles : (file : List ℕ) (st : State) (input byte : ℕ) (inputs left old new fresh : List ℕ) → InputEdited file st input byte inputs left old new Done
-    → SettledFor file st inputs old → SettledFor file st left fresh → new ≡ fresh
-input-edit-settles file st input byte inputs left old new fresh (done j z d) before after =
-    input-settles file j st input byte inputs left old new fresh (d .0) (d .1) before after
+pub input-edit-settles : (file : List ℕ) (st : State) (input byte : ℕ) (inputs left old new : List ℕ) → InputEdited file st input byte inputs left old new Done
+    → SettledFor file st inputs old → SettledAfresh file st left new
+input-edit-settles file st input byte inputs left old new (done j z d) before = input-settles file j st input byte inputs left old new (d .0) (d .1) before
 
-pub table-edit-settles : (file contents left flops : List ℕ) (table word : ℕ) (inputs old new fresh : List ℕ) → TableEdited file contents left flops table word inputs old new Done
-    → SettledFor file (stateOf contents flops) inputs old → SettledFor file (stateOf left flops) inputs fresh → new ≡ fresh
-table-edit-settles file contents left flops table word inputs old new fresh (done j z d) before after =
-    table-settles file j contents left flops table word inputs old new fresh (d .0) (d .1) before after
+pub table-edit-settles : (file contents left flops : List ℕ) (table word : ℕ) (inputs old new : List ℕ) → TableEdited file contents left flops table word inputs old new Done
+    → SettledFor file (stateOf contents flops) inputs old → SettledAfresh file (stateOf left flops) inputs new
+table-edit-settles file contents left flops table word inputs old new (done j z d) before = table-settles file j contents left flops table word inputs old new (d .0) (d .1) before
+
+-- ---- calls chain: what an edit leaves is good for the next call on the file
+module _ (file : List ℕ) {n m : ℕ} (j : Judged file (Accepted n m)) where
+  values-good : (touches : Gate → Bool) (st : State) (inputs old new : List ℕ) → GoodValues n old → EditedFor file touches st inputs old new n → GoodValues n new
+  values-good touches st inputs old new good d =
+      let long : length new ≡ signalCount n = d .size ∙ good .0 in
+      (long, bytes-good new (λ x h. edited-bits (gateAt file) (ordered file j .1) d (λ y l. good-bytes old (good .1) y (omega (arith, good .0))) x (omega arith)))
+
+  input-leaves : (st : State) (input byte : ℕ) (inputs left old new : List ℕ) → editRefusal (badInput m input byte) file st inputs old n m ≡ 0 → left ≡ set inputs input byte
+      → EditedFor file (touchesInput input) st left old new n → GoodState file n st × GoodInputs m left × GoodValues n new
+  input-leaves st input byte inputs left old new z e d =
+      let good = edit-tells file st inputs old n m (badInput m input byte) z in
+      let small = ltb-false 1 byte (or-right (leb m input) (ltb 1 byte) (edit-argument (badInput m input byte) file st inputs old n m z)) in
+      (good .0, rw e (length-set inputs input byte ∙ good .1 .0, set-bytes inputs input byte (good .1 .1) (omega arith)), values-good (touchesInput input) st left old new (good .2) d)
+
+  table-leaves : (contents left flops : List ℕ) (table word : ℕ) (inputs old new : List ℕ)
+      → editRefusal (badTable file n table word) file (stateOf contents flops) inputs old n m ≡ 0 → left ≡ set contents table word
+      → EditedFor file (touchesTable table) (stateOf left flops) inputs old new n → GoodState file n (stateOf left flops) × GoodInputs m inputs × GoodValues n new
+  table-leaves contents left flops table word inputs old new z e d =
+      let good = edit-tells file (stateOf contents flops) inputs old n m (badTable file n table word) z in
+      let sized = state-lengths n (stateOf contents flops) (good .0 .0) in
+      let allowed = or-right (leb (4 * n) table) (badWord file table word) (edit-argument (badTable file n table word) file (stateOf contents flops) inputs old n m z) in
+      (
+        rw e (state-good n (stateOf (set contents table word) flops) (length-set contents table word ∙ sized .0) (sized .1), set-words file contents table word (good .0 .1) allowed),
+        good .1,
+        values-good (touchesTable table) (stateOf left flops) inputs old new (good .2) d,
+      )
+
+pub input-edit-leaves : (file : List ℕ) (st : State) (input byte : ℕ) (inputs left old new : List ℕ) {n m : ℕ} → Judged file (Accepted n m)
+    → InputEdited file st input byte inputs left old new Done → GoodState file n st × GoodInputs m left × GoodValues n new
+input-edit-leaves file st input byte inputs left old new j (done i z d) =
+    same-sizes file (λ n m. GoodState file n st × GoodInputs m left × GoodValues n new) j i (input-leaves file i st input byte inputs left old new z (d .0) (d .1))
+
+pub table-edit-leaves : (file contents left flops : List ℕ) (table word : ℕ) (inputs old new : List ℕ) {n m : ℕ} → Judged file (Accepted n m)
+    → TableEdited file contents left flops table word inputs old new Done → GoodState file n (stateOf left flops) × GoodInputs m inputs × GoodValues n new
+table-edit-leaves file contents left flops table word inputs old new j (done i z d) =
+    same-sizes file (λ n m. GoodState file n (stateOf left flops) × GoodInputs m inputs × GoodValues n new) j i
+    (table-leaves file i contents left flops table word inputs old new z (d .0) (d .1))

@@ -1,7 +1,9 @@
 // Refusals 1 to 7 of the records of a file: the header, the size record, a slice and the end.
 ghost use mathlib.Core.Path.{_≡_};
-ghost use lib.Dec.{eqb};
-ghost use Rattle.slicefile.specs.Format.{endTag, bodyLength};
+ghost use mathlib.Core.Bool.{true};
+ghost use mathlib.Core.Logic.{_↔_};
+ghost use lib.ListN.{take};
+ghost use Rattle.slicefile.specs.Format.{headLength, bodyLength, endRecord};
 ghost use Rattle.framing.specs.Framing.{headerRefusal, badSize, sliceRefusal, sizeRefusal};
 use slicefile::END;
 use slicefile::END_TAG;
@@ -88,7 +90,7 @@ pub fn size_refusal(s: &[u8]) -> usize
 
 // Whether the bytes begin with the end record.
 pub fn is_end(s: &[u8]) -> bool
-    ensures { λ r. ⌜ r ≡ eqb (headerRefusal endTag (now (s .entry))) 0 ⌝ }
+    ensures { λ r. ⌜ (r ≡ true) ↔ (take headLength (now (s .entry)) ≡ endRecord) ⌝ }
 {
     if s.len() < HEAD {
         return false;

@@ -16,13 +16,13 @@ use Rattle.netlist.proofs.Fitting.{source-more}
 use Rattle.slicefile.specs.Lists.{tabulate}
 use Rattle.slicefile.specs.Format.{mode, shiftData, mainInput, secondInput, setResetUsed, bypassPin, clockEnablePin, setResetPin, writeEnablePin, lutPin}
 use Rattle.rules.specs.Rules.{bodyRefusal}
+use Rattle.rules.proofs.Letters.{memory-with-d}
 use Rattle.sources.specs.Sources.{pinSource, own, wideSignal}
 use Rattle.series7.specs.Edge.{mainSource, secondSource, flopSource, nextBit, nextFlops, writeAddress, written, nextWord}
 use Rattle.series7.proofs.GateLaws.{either, pin-fits}
 use Rattle.edge.specs.Numbers.{resetCode, addressCode, kindOf, tableKind, writeCode, dataCode, edgeNumber, edgeNumbers}
 use Rattle.gates.specs.Codes.{numberOn}
 use Rattle.moves.specs.Moves.{edgeWe, edgeFlop, edgeWrite, edgeKind, addressBy, bitBy, flopsBy, writtenBy, wordBy}
-use Rattle.moves.proofs.MemoryRule.{memory-with-d}
 
 -- what holds of six, and of what stands past them, holds of whichever is chosen
 six : {A : Type 0} (P : A → Type 0) {a b c d e f z : A} → P a → P b → P c → P d → P e → P f → P z → (i : ℕ)

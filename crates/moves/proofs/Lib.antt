@@ -1,5 +1,4 @@
 pub mod Bits
 pub mod Byte
 pub mod Moving
-pub mod MemoryRule
 pub mod Laws

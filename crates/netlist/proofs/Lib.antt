@@ -6,6 +6,7 @@ pub mod Marks
 pub mod Walk
 pub mod Settling
 pub mod Editing
+pub mod Bits
 pub mod Net
 pub mod Table
 pub mod Fitting

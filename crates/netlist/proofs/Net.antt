@@ -29,21 +29,15 @@ module _ (g : ℕ → Gate) (N : ℕ) (wf : WellFormed (readsIn g) N) (free : Lo
       → new ≡ new′
   one-edited e touches old new new′ long d d′ = edited-unique g (some-order (readsIn g) N wf free .1) touches e old new new′ long d d′
 
-  -- editing a settled table gives the table settled afresh
+  -- an edit of a settled table leaves a settled one
   pub input-edited :
-      (e : Env) (j b : ℕ) (old new fresh : List ℕ) → Settled g N e old → Edited g N (setInput e j b) (λ x. touchesInput j (g x)) old new
-      → Settled g N (setInput e j b) fresh → new ≡ fresh
-  input-edited e j b old new fresh s d f =
-      one-settled (setInput e j b) new fresh
-      (edited-settled g (some-order (readsIn g) N wf free .1) (λ x. touchesInput j (g x)) e (setInput e j b)
-      (λ x n t. rule-input e j b t (g x) n) old new d s)
-      f
+      (e : Env) (j b : ℕ) (old new : List ℕ) → Settled g N e old → Edited g N (setInput e j b) (λ x. touchesInput j (g x)) old new
+      → Settled g N (setInput e j b) new
+  input-edited e j b old new s d =
+      edited-settled g (some-order (readsIn g) N wf free .1) (λ x. touchesInput j (g x)) e (setInput e j b) (λ x n t. rule-input e j b t (g x) n) old new d s
 
   pub contents-edited :
-      (e : Env) (u w : ℕ) (old new fresh : List ℕ) → Settled g N e old → Edited g N (setContents e u w) (λ x. touchesTable u (g x)) old new
-      → Settled g N (setContents e u w) fresh → new ≡ fresh
-  contents-edited e u w old new fresh s d f =
-      one-settled (setContents e u w) new fresh
-      (edited-settled g (some-order (readsIn g) N wf free .1) (λ x. touchesTable u (g x)) e (setContents e u w)
-      (λ x n t. rule-contents e u w t (g x) n) old new d s)
-      f
+      (e : Env) (u w : ℕ) (old new : List ℕ) → Settled g N e old → Edited g N (setContents e u w) (λ x. touchesTable u (g x)) old new
+      → Settled g N (setContents e u w) new
+  contents-edited e u w old new s d =
+      edited-settled g (some-order (readsIn g) N wf free .1) (λ x. touchesTable u (g x)) e (setContents e u w) (λ x n t. rule-contents e u w t (g x) n) old new d s

@@ -7,17 +7,11 @@ use Rattle.slicefile.specs.declared.Answer.the-variants.{Done}
 use Rattle.column.specs.Clock.{State, clocked, SettledFor, Run}
 use Rattle.column.specs.Judge.{Judged}
 use Rattle.column.specs.declared.Verdict.the-variants.{Accepted}
-use Rattle.column.proofs.Netlist.{settles-once}
 use Rattle.column.proofs.Runs.{run-unique}
-use Rattle.column.proofs.SoundLaws.{sound-file}
-use Rattle.column.proofs.Verdicts.{accepted-sound, accepted-free}
+use Rattle.column.proofs.Tables.{settled-once}
 use Rattle.buffers.specs.Buffers.{settleRefusal}
 use Rattle.calls.proofs.Demands.{agree, called-done}
 use Rattle.simulator.specs.Running.{SettleCalled, ClockCalled}
-
--- an accepted file settles to one table
-settled-once : (file : List ℕ) {n m : ℕ} → Judged file (Accepted n m) → (st : State) (inputs t t′ : List ℕ) → SettledFor file st inputs t → SettledFor file st inputs t′ → t ≡ t′
-settled-once file j = settles-once file (rw (← sound-file file (accepted-sound file j) .count) at (accepted-free file j))
 
 pub settle-unique : (file : List ℕ) (st : State) (inputs old new new′ : List ℕ) {r r′ : Answer} → SettleCalled file st inputs old new r → SettleCalled file st inputs old new′ r′
     → (r ≡ r′) × (new ≡ new′)
@@ -33,16 +27,17 @@ clock-unique file st moved moved′ inputs old new new′ c c′ =
     (d .0 ∙ ap (clocked file st inputs) same ∙ sym (d′ .0), same))
 
 -- ---- demand 2: calls of clock, each from the state that the last one left, make a run, which is the only one
-pub clocks-run : (file : List ℕ) (states : ℕ → State) (inputs olds tables : ℕ → List ℕ) (K : ℕ)
-    → ((k : ℕ) → k < K → ClockCalled file (states k) (states (suc k)) (inputs k) (olds k) (tables k) Done) → Run file (states 0) inputs K
-clocks-run file states inputs olds tables K each =
-    record {
+pub clocks-run : (file : List ℕ) {start : State} (states : ℕ → State) (inputs olds tables : ℕ → List ℕ) (K : ℕ) → states 0 ≡ start
+    → ((k : ℕ) → k < K → ClockCalled file (states k) (states (suc k)) (inputs k) (olds k) (tables k) Done)
+    → (r : Run file start inputs K) × (r .states ≡ states) × (r .tables ≡ tables)
+clocks-run file states inputs olds tables K from each =
+    (record {
       states = states;
       tables = tables;
-      begins = refl;
+      begins = from;
       settled = λ k l. called-done file _ (each k l) .4 .1;
       moves = λ k l. called-done file _ (each k l) .4 .0;
-    }
+    }, refl, refl)
 
 pub run-determined : (file : List ℕ) {n m : ℕ} → Judged file (Accepted n m) → {start : State} {inputs : ℕ → List ℕ} {K : ℕ} (r r′ : Run file start inputs K) (k : ℕ) → k ≤ K
     → r .states k ≡ r′ .states k

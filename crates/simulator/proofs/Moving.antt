@@ -11,10 +11,6 @@ use lib.ListN.{length, getD, set, length-set}
 use lib.Seq.{getD-set-other}
 use Rattle.netlist.specs.Rule.{valueOf}
 use Rattle.netlist.specs.declared.Source.the-variants.{Constant}
-use Rattle.rules.specs.Rules.{bodyRefusal}
-use Rattle.framing.specs.Framing.{sliceRefusal, headerRefusal}
-use Rattle.slicefile.specs.Format.{sliceTag}
-use Rattle.rules.proofs.Refusals.{orElse-right}
 use Rattle.series7.specs.Edge.{nextFlops, nextWord}
 use Rattle.moves.specs.Moved.{Moved}
 use Rattle.edge.specs.Numbers.{edgeNumbers}
@@ -22,7 +18,7 @@ use Rattle.moves.specs.Moves.{flopsBy}
 use Rattle.moves.proofs.Laws.{flops-law, word-law}
 use Rattle.column.specs.Clock.{stateOf, clocked}
 use Rattle.column.specs.File.{sliceBody}
-use Rattle.column.proofs.SoundLaws.{SoundFile}
+use Rattle.column.proofs.SoundLaws.{SoundFile, body-good}
 use Rattle.calls.proofs.Filling.{Filled, filled-next, filled-all}
 
 module _ (file : List ℕ) (n m : ℕ) (inputs values words bytes : List ℕ) where
@@ -58,11 +54,6 @@ module _ (file : List ℕ) {n m : ℕ} (f : SoundFile file n m) (inputs values w
   unfolding valueOf
   none = refl
 
-  -- the body of a slice of a sound file keeps the rules
-  body-good : (s : ℕ) → s < n → bodyRefusal n m s (sliceBody file s) ≡ 0
-  unfolding sliceRefusal sliceBody
-  body-good s l = orElse-right (headerRefusal sliceTag _) _ (f .each s l)
-
   pub moved-next : (s : ℕ) → s < n → (contents flops contents′ flops′ : List ℕ) → s < length flops → MovedTo file n m inputs values words bytes s contents flops
       → Moved (valueOf inputs values) (edgeNumbers n m s (sliceBody file s)) s 4 contents contents′
       → flops′ ≡ set flops s (flopsBy (valueOf inputs values) (edgeNumbers n m s (sliceBody file s)) (getD flops s 0)) → MovedTo file n m inputs values words bytes (s + 1) contents′ flops′
@@ -83,7 +74,7 @@ module _ (file : List ℕ) {n m : ℕ} (f : SoundFile file n m) (inputs values w
           let letter : 4 * s + i % 4 ≡ i = omega arith in
           let moved = rw letter at (moves .moved (i % 4) (omega arith)) in
           moved
-          ∙ word-law n m s (sliceBody file s) l (omega (arith, f .inputs-fit)) (valueOf inputs values) none (body-good s l) (i % 4) _ _ (omega arith)
+          ∙ word-law n m s (sliceBody file s) l (omega (arith, f .inputs-fit)) (valueOf inputs values) none (body-good file f s l) (i % 4) _ _ (omega arith)
           ∙ rw (slice, before .contents-kept i low, before .contents-kept (i + 1) (omega arith))
 
       by-place : (i : ℕ) → i < 4 * (s + 1) → Dec (i < 4 * s) → getD contents′ i 0 ≡ word file n m inputs values words bytes i

@@ -1,14 +1,13 @@
--- `framing::is_end` meets its contract: three bytes that are those of the end record are a header that is not refused. Assumes nothing.
-use borrow.Author.Tests.{lt-ltb}
+-- `framing::is_end` meets its contract. Assumes nothing.
+use mathlib.Core.Path.{sym}
+use mathlib.Core.Bool.{true≢false}
 use borrow.Author.Needs.{needs}
-use Rattle.framing.specs.Framing.{headerRefusal}
-use Rattle.framing.proofs.EndLaws.{end-test}
+use Rattle.framing.proofs.EndLaws.{no-end, end-test}
 use Rattle.framing.proofs.is_end.Statement.{statement}
 use Rattle.framing.proofs.is_end.Tie as tie
 
 returns : tie.Need-returns
-unfolding headerRefusal
-returns c = simp (lt-ltb _ _ (c .if1 .taken))
+returns c = (λ e. absurd (true≢false (sym e)), λ e. absurd (no-end (c .before .args .s .now) (c .if1 .taken) e))
 
 shared-slice-read-result : tie.Need-shared-slice-read-result
 shared-slice-read-result c = search needs
