@@ -1,6 +1,6 @@
 -- A record's fields are those of its bytes, and its bytes are those of its fields. Assumes nothing.
-use mathlib.Core.Path.{_≡_, refl, _∙_}
-use mathlib.Core.List.{List, [], _∷_, _++_}
+use mathlib.Core.Path.{_≡_, refl, _∙_, sym, ap}
+use mathlib.Core.List.{List, [], _∷_, _++_, append-nil}
 use Prim.Native.Nat.{ℕ}
 use native.Mathlib.Omega.{arith}
 use lib.ListN.{length, drop}
@@ -8,19 +8,19 @@ use lib.Seq.{take-all}
 use Rattle.slicefile.specs.Format.{sliceTag, bodyLength}
 use Rattle.fields.specs.Record.{allBytes, recordOf, bodyBytes, Below, Typed}
 use Rattle.fields.specs.declared.Record.{Record}
-use Rattle.fields.proofs.Pieces.{join, piece-byte, piece-letters, piece-words, piece-codes}
+use Rattle.fields.proofs.Pieces.{join, piece-byte, piece-bytes, piece-numbers, pairs-pieces}
 use Rattle.fields.proofs.Encoding.{length-allBytes}
-use Rattle.fields.proofs.Fields.{after, byte-field, letters-field, words-field, codes-field}
+use Rattle.fields.proofs.Fields.{after, byte-field, bytes-field, numbers-field}
 
 -- the bytes of the record that a body holds are the body
 pub bytes-of-record : (body : List ℕ) → length body ≡ bodyLength sliceTag → Below 256 body → bodyBytes (recordOf body) ≡ body
 unfolding bodyBytes recordOf
 bytes-of-record s h b =
-    let pins = piece-codes s 62 0 31 b (omega arith) in
+    let pins = ap (allBytes 2) (pairs-pieces s 62 31) ∙ piece-numbers s 62 2 0 31 b (omega arith) in
     let bits = join s 59 1 64 (piece-byte s 59 (omega arith)) (join s 60 1 63 (piece-byte s 60 (omega arith)) (join s 61 1 62 (piece-byte s 61 (omega arith)) pins)) in
-    let flops = join s 47 4 73 (piece-letters s 47 (omega arith)) (join s 51 4 69 (piece-letters s 51 (omega arith)) (join s 55 4 65 (piece-letters s 55 (omega arith)) bits)) in
-    let carry = join s 42 4 78 (piece-letters s 42 (omega arith)) (join s 46 1 77 (piece-byte s 46 (omega arith)) flops) in
-    let tables = join s 2 4 118 (piece-letters s 2 (omega arith)) (join s 6 4 114 (piece-letters s 6 (omega arith)) (join s 10 32 82 (piece-words s b (omega arith)) carry)) in
+    let flops = join s 47 4 73 (piece-bytes s 47 4 (omega arith)) (join s 51 4 69 (piece-bytes s 51 4 (omega arith)) (join s 55 4 65 (piece-bytes s 55 4 (omega arith)) bits)) in
+    let carry = join s 42 4 78 (piece-bytes s 42 4 (omega arith)) (join s 46 1 77 (piece-byte s 46 (omega arith)) flops) in
+    let tables = join s 2 4 118 (piece-bytes s 2 4 (omega arith)) (join s 6 4 114 (piece-bytes s 6 4 (omega arith)) (join s 10 32 82 (piece-numbers s 10 8 0 4 b (omega arith)) carry)) in
     join s 0 1 123 (piece-byte s 0 (omega arith)) (join s 1 1 122 (piece-byte s 1 (omega arith)) tables) ∙ take-all 124 s (omega arith)
 
 -- the record that its bytes hold is the record
@@ -51,16 +51,16 @@ record-of-bytes r t =
     λ i. record {
       number = r .number;
       kind = r .kind;
-      modes = letters-field s 2 (r .modes) t6 d2 (z .modes) i;
-      shifts = letters-field s 6 (r .shifts) t10 d6 (z .shifts) i;
-      contents = words-field s (r .contents) t42 d10 (t .contents) (z .contents) i;
-      carries = letters-field s 42 (r .carries) t46 d42 (z .carries) i;
+      modes = bytes-field s 2 4 (r .modes) t6 d2 (z .modes) i;
+      shifts = bytes-field s 6 4 (r .shifts) t10 d6 (z .shifts) i;
+      contents = numbers-field s 10 8 4 (r .contents) t42 d10 (t .contents) (z .contents) i;
+      carries = bytes-field s 42 4 (r .carries) t46 d42 (z .carries) i;
       start = byte-field s 46 0 d46 i;
-      muxes = letters-field s 47 (r .muxes) t51 d47 (z .muxes) i;
-      mains = letters-field s 51 (r .mains) t55 d51 (z .mains) i;
-      seconds = letters-field s 55 (r .seconds) t59 d55 (z .seconds) i;
+      muxes = bytes-field s 47 4 (r .muxes) t51 d47 (z .muxes) i;
+      mains = bytes-field s 51 4 (r .mains) t55 d51 (z .mains) i;
+      seconds = bytes-field s 55 4 (r .seconds) t59 d55 (z .seconds) i;
       powerup = byte-field s 59 0 d59 i;
       resets = byte-field s 59 1 d59 i;
       resettable = byte-field s 59 2 d59 i;
-      pins = codes-field s (r .pins) d62 (t .pins) (z .pins) i;
+      pins = (pairs-pieces s 62 31 ∙ numbers-field s 62 2 31 (r .pins) [] (d62 ∙ sym (append-nil t62)) (t .pins) (z .pins)) i;
     }

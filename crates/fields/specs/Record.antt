@@ -9,7 +9,7 @@ use Rattle.fields.specs.declared.Record.{Record}
 
 -- a field of the four letters
 abbrev pub letters : (ℕ → ℕ) → List ℕ
-letters f = f 0 ∷ f 1 ∷ f 2 ∷ f 3 ∷ []
+letters f = tabulate 0 4 f
 
 -- the record that a slice's body holds
 unfoldable pub recordOf : List ℕ → Record

@@ -1,5 +1,6 @@
 -- `fields::decode` meets its contract: each field is read from its bytes. Assumes nothing.
 use borrow.Author.Needs.{needs}
+use Rattle.slicefile.specs.Lists.{tabulate}
 use Rattle.fields.specs.Record.{recordOf}
 use Rattle.fields.proofs.decode.Statement.{statement}
 use Rattle.fields.proofs.decode.Tie as tie
@@ -56,7 +57,7 @@ shared-slice-read-t25 : tie.Need-shared-slice-read-t25
 shared-slice-read-t25 c = search needs
 
 returns : tie.Need-returns
-unfolding recordOf
+unfolding recordOf tabulate
 returns c =
     let c11 = c .before .before .before .before .before .before in
     let c10 = c11 .before in

@@ -1,6 +1,7 @@
 -- `fields::letter_bytes` meets its contract. Assumes nothing.
 use native.Mathlib.Nat.{add-zero}
 use borrow.Author.Needs.{needs}
+use Rattle.slicefile.specs.Lists.{tabulate}
 use Rattle.fields.proofs.letter_bytes.Statement.{statement}
 use Rattle.fields.proofs.letter_bytes.Tie as tie
 
@@ -26,6 +27,7 @@ shared-slice-read-t13 : tie.Need-shared-slice-read-t13
 shared-slice-read-t13 c = search needs
 
 returns : tie.Need-returns
+unfolding tabulate
 returns c = simp add-zero
 
 pub letter-bytes-spec : {M : Type 1} → statement M
