@@ -2,11 +2,11 @@
 use mathlib.Core.Path.{_≡_, _∙_, refl, sym, ap, subst⁻¹}
 use mathlib.Core.List.{List}
 use Prim.Native.Nat.{ℕ, suc, _*_, _/_, _%_}
-use native.Mathlib.Nat.{zero-add}
 use native.Mathlib.Omega.{arith}
 use lib.ListN.{length}
 use Rattle.slicefile.specs.Format.{contentsWord}
 use Rattle.slicefile.specs.declared.Answer.{Answer}
+use Rattle.slicefile.proofs.Tabulate.{tabulate-length, tabulate-at}
 use Rattle.slicefile.specs.declared.Answer.the-variants.{Refused as AnswerRefused, Done}
 use Rattle.rules.specs.Rules.{given}
 use Rattle.rules.proofs.Letters.{shift-fits}
@@ -21,7 +21,6 @@ use Rattle.column.proofs.Verdicts.{judged-unique, not-both}
 use Rattle.buffers.specs.Buffers.{badState, badWord, GoodState}
 use Rattle.buffers.proofs.Good.{state-good, words-good}
 use Rattle.calls.specs.Calls.{Called, judged, refused, done, PoweredUp}
-use Rattle.calls.proofs.Filling.{tabulate-length, tabulate-at}
 
 same-refused : (v : Verdict) {k p i j : ℕ} → v ≡ Refused k p → v ≡ Refused i j → AnswerRefused k p ≡ AnswerRefused i j
 same-refused v e f = cc
@@ -77,7 +76,7 @@ power-up-good file {n} {m} j =
     (
       state-good n (powerUp file) long (tabulate-length 0 _ _ ∙ f .count),
       words-good file words
-      (λ t h. rw (tabulate-at 0 (4 * sliceCount file) (λ t. contentsWord (sliceBody file (t / 4)) (t % 4)) t (omega (arith, f .count)), zero-add)
+      (λ t h. rw (tabulate-at (4 * sliceCount file) (λ t. contentsWord (sliceBody file (t / 4)) (t % 4)) t (omega (arith, f .count)))
       (shift-fits n m (t / 4) (sliceBody file (t / 4)) (body-good file f (t / 4) (omega arith)) (t % 4) (omega arith))),
     )
 

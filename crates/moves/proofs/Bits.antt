@@ -1,6 +1,5 @@
 -- Bits of a word. Assumes nothing.
 use mathlib.Core.Path.{_≡_, _∙_, sym, ap, subst, subst⁻¹}
-use mathlib.Core.List.{[], _∷_, map}
 use Prim.Native.Nat.{ℕ, zero, suc, _+_, _-_, _*_, _/_, _%_, _^_, _≤_, _<_}
 use native.Mathlib.Nat.{mod-lt, mul-le-mul-right, one-mul}
 use native.Mathlib.Numerals.{add-one}
@@ -22,8 +21,7 @@ bits-from (suc k) j x =
     rw (bits-from k (suc j) x, ← half, low) (omega arith)
 
 -- a byte is its eight bits
-pub eight-bits : (x : ℕ) → number (map (bitAt x) (0 ∷ 1 ∷ 2 ∷ 3 ∷ 4 ∷ 5 ∷ 6 ∷ 7 ∷ [])) ≡ x % 256
-unfolding tabulate
+pub eight-bits : (x : ℕ) → number (tabulate 0 8 (bitAt x)) ≡ x % 256
 eight-bits x = bits-from 8 0 x ∙ omega arith
 
 -- a power that fits

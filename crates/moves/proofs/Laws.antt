@@ -1,47 +1,40 @@
 -- On the numbers of a slice that passes the rules, the edge does what the paper says of the slice. Assumes nothing.
-use mathlib.Core.Path.{_≡_, refl, ap}
+use mathlib.Core.Path.{_≡_, refl, _∙_, ap}
 use mathlib.Core.Bool.{Bool, true, false, cond, _&&_}
 use mathlib.Core.List.{List, [], _∷_}
-use Prim.Native.Nat.{ℕ, zero, suc, _+_, _≤_, _<_}
+use Prim.Native.Nat.{ℕ, zero, suc, _+_, _-_, _≤_, _<_}
 use native.Mathlib.Omega.{arith}
 use borrow.Author.Tests.{eq-eqb}
-use lib.Dec.{eqb, lit<, eqb·suc-zero, eqb·suc-suc}
+use lib.Dec.{ltb, eqb, lit<, eqb·suc-zero, eqb·suc-suc}
 use lib.ListN.{getD}
-use Rattle.netlist.specs.Rule.{bitAt}
+use Rattle.netlist.specs.Rule.{bitAt, number}
 use Rattle.netlist.specs.Table.{codeOf, sourceOf, inputRoom, SourceFits}
 use Rattle.netlist.specs.declared.Source.{Source}
 use Rattle.netlist.specs.declared.Source.the-variants.{Constant}
 use Rattle.netlist.proofs.Table.{source-back}
 use Rattle.netlist.proofs.Fitting.{source-more}
-use Rattle.slicefile.specs.Lists.{tabulate}
+use Rattle.slicefile.proofs.Tabulate.{tabulate-same}
 use Rattle.slicefile.specs.Format.{mode, shiftData, mainInput, secondInput, setResetUsed, bypassPin, clockEnablePin, setResetPin, writeEnablePin, lutPin}
 use Rattle.rules.specs.Rules.{bodyRefusal}
 use Rattle.rules.proofs.Letters.{memory-with-d}
-use Rattle.sources.specs.Sources.{pinSource, own, wideSignal}
+use Rattle.sources.specs.Sources.{pinSource, own}
 use Rattle.series7.specs.Edge.{mainSource, secondSource, flopSource, nextBit, nextFlops, writeAddress, written, nextWord}
-use Rattle.series7.proofs.GateLaws.{either, pin-fits}
-use Rattle.edge.specs.Numbers.{resetCode, addressCode, kindOf, tableKind, writeCode, dataCode, edgeNumber, edgeNumbers}
-use Rattle.gates.specs.Codes.{numberOn}
-use Rattle.moves.specs.Moves.{edgeWe, edgeFlop, edgeWrite, edgeKind, addressBy, bitBy, flopsBy, writtenBy, wordBy}
+use Rattle.series7.proofs.GateLaws.{either, pin-fits, wide-small}
+use Rattle.edge.specs.Numbers.{edgeLength, resetCode, addressCode, kindOf, writeCode, edgeNumber, edgeNumbers}
+use Rattle.edge.proofs.Table.{number-at, address-at, flop-at, kind-at, data-at}
+use Rattle.moves.specs.Moves.{edgeWe, addressBy, bitBy, flopsBy, writtenBy, wordBy}
+use Rattle.moves.proofs.Byte.{number-on}
 
--- what holds of six, and of what stands past them, holds of whichever is chosen
-six : {A : Type 0} (P : A → Type 0) {a b c d e f z : A} → P a → P b → P c → P d → P e → P f → P z → (i : ℕ)
-    → P (getD (a ∷ b ∷ c ∷ d ∷ e ∷ f ∷ []) i z)
-six P a b c d e f z zero = a
-six P a b c d e f z (suc zero) = b
-six P a b c d e f z (suc (suc zero)) = c
-six P a b c d e f z (suc (suc (suc zero))) = d
-six P a b c d e f z (suc (suc (suc (suc zero)))) = e
-six P a b c d e f z (suc (suc (suc (suc (suc zero))))) = f
-six P a b c d e f z (suc (suc (suc (suc (suc (suc i)))))) = z
+-- what holds of each of a list, and of what stands past them, holds of whichever is chosen
+infixr 5 _and_
+data Each {A : Type 0} (P : A → Type 0) : List A → Type 0 where
+  end : Each P []
+  _and_ : {x : A} {xs : List A} → P x → Each P xs → Each P (x ∷ xs)
 
--- what holds of each letter holds of any
-letters : (P : ℕ → Type 0) → P 0 → P 1 → P 2 → P 3 → (l : ℕ) → l < 4 → P l
-letters P a b c d zero h = a
-letters P a b c d (suc zero) h = b
-letters P a b c d (suc (suc zero)) h = c
-letters P a b c d (suc (suc (suc zero))) h = d
-letters P a b c d (suc (suc (suc (suc l)))) h = absurd (omega arith)
+chosen : {A : Type 0} (P : A → Type 0) {xs : List A} {z : A} → Each P xs → P z → (i : ℕ) → P (getD xs i z)
+chosen P end past i = past
+chosen P (here and rest) past zero = here
+chosen P (here and rest) past (suc i) = chosen P rest past i
 
 -- a source that may be left out is the constant 0 there
 maybe : (v : Source → ℕ) → v (Constant false) ≡ 0 → (t : Bool) (x : Source) → sourceOf (codeOf x) ≡ x
@@ -81,52 +74,44 @@ module _ (n m s : ℕ) (body : List ℕ) (here : s < n) (room : m ≤ inputRoom)
   own-back : (k : ℕ) → k < 32 → Back (own s k)
   own-back k h = back _ (omega arith)
 
-  wide-back : (l : ℕ) → Back (own s (wideSignal l))
-  wide-back l =
-      let P : ℕ → Type 0 = λ k. Back (own s k) in
-      either P (eqb l 0) (own-back 16 (lit< tt))
-      (either P (eqb l 1) (own-back 18 (lit< tt)) (either P (eqb l 2) (own-back 17 (lit< tt)) (own-back 19 (lit< tt))))
-
-  main-back : (l : ℕ) → l < 4 → Back (mainSource n m s body l)
+  main-back : (l : ℕ) → l < 8 → Back (mainSource n m s body l)
   unfolding mainSource
   main-back l h =
-      six Back (own-back l (omega arith)) (own-back (4 + l) (omega arith)) (own-back (12 + l) (omega arith)) (own-back (8 + l) (omega arith)) (wide-back l)
-      (pin-back (bypassPin l)) (back (Constant false) tt) (mainInput body l)
+      chosen Back
+      (own-back l (omega arith) and own-back (4 + l) (omega arith) and own-back (12 + l) (omega arith) and own-back (8 + l) (omega arith) and own-back _ (wide-small l) and pin-back (bypassPin l) and end)
+      (back (Constant false) tt) (mainInput body l)
 
-  second-back : (l : ℕ) → l < 4 → Back (secondSource n m s body l)
+  second-back : (l : ℕ) → l < 8 → Back (secondSource n m s body l)
   unfolding secondSource
   second-back l h = either Back (eqb (secondInput body l) 0) (own-back (4 + l) (omega arith)) (pin-back (bypassPin l))
+
+  flop-back : (b : ℕ) → b < 8 → Back (flopSource n m s body b)
+  flop-back b h = either Back (ltb b 4) (main-back b h) (second-back (b - 4) (omega arith))
 
   abbrev numbers : List ℕ
   numbers = edgeNumbers n m s body
 
   module _ (v : Source → ℕ) (none : v (Constant false) ≡ 0) where
-    bit-law : (old b : ℕ) → edgeFlop numbers b ≡ flopSource n m s body b → bitBy v numbers old b ≡ nextBit v n m s body old b
-    unfolding bitBy nextBit edgeNumbers edgeNumber tabulate resetCode
-    bit-law old b e = rw (maybe v none (eqb (setResetUsed body) 1) (pinSource n m body setResetPin) (pin-back setResetPin), pin-back clockEnablePin, e)
+    bit-law : (old b : ℕ) → b < 8 → bitBy v numbers old b ≡ nextBit v n m s body old b
+    unfolding bitBy nextBit edgeNumber resetCode
+    bit-law old b h =
+        let at : (k : ℕ) → k < edgeLength → getD numbers k 0 ≡ edgeNumber n m s body k = number-at n m s body in
+        rw (at 0 (lit< tt), at 1 (lit< tt), at 17 (lit< tt), flop-at n m s body b h, flop-back b h, maybe v none (eqb (setResetUsed body) 1) (pinSource n m body setResetPin) (pin-back setResetPin), pin-back clockEnablePin)
 
     -- the flip-flop byte after the edge
     pub flops-law : (old : ℕ) → flopsBy v numbers old ≡ nextFlops v n m s body old
-    unfolding flopsBy nextFlops edgeNumbers edgeNumber tabulate
-    flops-law old =
-        rw (bit-law old 0 (main-back 0 (lit< tt)), bit-law old 1 (main-back 1 (lit< tt)), bit-law old 2 (main-back 2 (lit< tt)), bit-law old 3 (main-back 3 (lit< tt)), bit-law old 4 (second-back 0 (lit< tt)), bit-law old 5 (second-back 1 (lit< tt)), bit-law old 6 (second-back 2 (lit< tt)), bit-law old 7 (second-back 3 (lit< tt)))
+    unfolding flopsBy nextFlops
+    flops-law old = ap number (tabulate-same 8 (bitBy v numbers old) (nextBit v n m s body old) (bit-law old))
 
     address-law : mode body 3 ≡ 1 → addressBy v numbers ≡ writeAddress v n m body
-    unfolding numberOn writeAddress edgeNumbers edgeNumber tabulate addressCode
+    unfolding writeAddress addressCode
     address-law e =
-        rw (eq-eqb (mode body 3) 1 e, pin-back (lutPin 3 0), pin-back (lutPin 3 1), pin-back (lutPin 3 2), pin-back (lutPin 3 3), pin-back (lutPin 3 4), pin-back (lutPin 3 5))
+        number-on v numbers 3 6
+        ∙ ap number (tabulate-same 6 _ _ (λ i h. rw (address-at n m s body i h, eq-eqb (mode body 3) 1 e, pin-back (lutPin 3 i))))
 
     we-law : edgeWe numbers ≡ pinSource n m body writeEnablePin
-    unfolding edgeNumbers edgeNumber tabulate
-    we-law = pin-back writeEnablePin
-
-    kind-law : (l : ℕ) → l < 4 → edgeKind numbers l ≡ tableKind body l
-    unfolding edgeNumbers edgeNumber tabulate
-    kind-law = letters (λ l. edgeKind numbers l ≡ tableKind body l) refl refl refl refl
-
-    write-law : (l : ℕ) → l < 4 → edgeWrite numbers l ≡ sourceOf (dataCode n m body l)
-    unfolding edgeNumbers edgeNumber tabulate
-    write-law = letters (λ l. edgeWrite numbers l ≡ sourceOf (dataCode n m body l)) refl refl refl refl
+    unfolding edgeNumber
+    we-law = ap sourceOf (number-at n m s body 2 (lit< tt)) ∙ pin-back writeEnablePin
 
     -- a letter's word after the edge
     pub word-law : bodyRefusal n m s body ≡ 0 → (l old next : ℕ) → l < 4 → wordBy v numbers l old next ≡ nextWord v n m body l old next
@@ -134,4 +119,4 @@ module _ (n m s : ℕ) (body : List ℕ) (here : s < n) (room : m ≤ inputRoom)
     word-law ok l old next h =
         let p = pinSource n m body (bypassPin l) in
         let address : mode body l ≡ 1 → addressBy v numbers ≡ writeAddress v n m body = λ e. address-law (memory-with-d n m s body ok l h e) in
-        rw (we-law, kind-law l h, write-law l h, by-kind v p (pin-back (bypassPin l)) old (bitAt next 31) (addressBy v numbers) (writeAddress v n m body) (mode body l) (shiftData body l) address)
+        rw (we-law, kind-at n m s body l h, data-at n m s body l h, by-kind v p (pin-back (bypassPin l)) old (bitAt next 31) (addressBy v numbers) (writeAddress v n m body) (mode body l) (shiftData body l) address)

@@ -1,12 +1,13 @@
 -- One clock edge over the numbers of a slice. v gives the bit on a source, in the table settled before the edge.
 use mathlib.Core.Bool.{cond}
-use mathlib.Core.List.{List, [], _∷_, map}
+use mathlib.Core.List.{List}
 use Prim.Native.Nat.{ℕ, _+_}
 use lib.Dec.{eqb}
 use lib.ListN.{getD}
 use Rattle.netlist.specs.Rule.{bitAt, number}
 use Rattle.netlist.specs.Table.{sourceOf}
 use Rattle.netlist.specs.declared.Source.{Source}
+use Rattle.slicefile.specs.Lists.{tabulate}
 use Rattle.gates.specs.Codes.{numberOn}
 use Rattle.series7.specs.Edge.{withBit, shifted}
 
@@ -41,9 +42,9 @@ addressBy v e = numberOn v e 3 6
 unfoldable pub bitBy : (Source → ℕ) → List ℕ → ℕ → ℕ → ℕ
 bitBy v e old b = cond (eqb (v (edgeSr e)) 1) (bitAt (edgeValues e) b) (cond (eqb (v (edgeCe e)) 1) (v (edgeFlop e b)) (bitAt old b))
 
--- the flip-flop byte after the edge
+-- the flip-flop byte after the edge, by its 8 bits
 unfoldable pub flopsBy : (Source → ℕ) → List ℕ → ℕ → ℕ
-flopsBy v e old = number (map (bitBy v e old) (0 ∷ 1 ∷ 2 ∷ 3 ∷ 4 ∷ 5 ∷ 6 ∷ 7 ∷ []))
+flopsBy v e old = number (tabulate 0 8 (bitBy v e old))
 
 -- a word after an edge with WE 1, by its table's kind
 unfoldable pub writtenBy : ℕ → ℕ → ℕ → ℕ → ℕ → ℕ

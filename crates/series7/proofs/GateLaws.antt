@@ -9,7 +9,7 @@ use Rattle.netlist.specs.declared.Source.{Source}
 use Rattle.netlist.specs.declared.Gate.{Gate}
 use Rattle.slicefile.specs.Format.{mode, carryData, carryStart, muxChoice, pinCode, bypassPin}
 use Rattle.slicefile.proofs.DriverLaws.{driver-cases}
-use Rattle.sources.specs.Sources.{outputSignal, decodedSource, pinSource}
+use Rattle.sources.specs.Sources.{outputSignal, decodedSource, pinSource, wideSignal}
 use Rattle.series7.specs.Signals.{muxSignal, pinsOf, o6Gate, o5Gate, mc31Gate, startSource, carryIn, carrySource, byBypass, wideGate, familyOf, familyGate, sliceGate}
 use Rattle.series7.specs.declared.Family.{Family}
 use Rattle.series7.specs.declared.Family.the-variants.{O6, O5, Carry, Sum, Wide, Mux, Main, Second}
@@ -22,13 +22,17 @@ either P false p q = q
 output-small : (k : ℕ) → k < 12 → outputSignal k < 32
 output-small k h = either (λ (x : ℕ). x < 32) (ltb k 4) (omega arith) (omega arith)
 
+pub wide-small : (l : ℕ) → wideSignal l < 32
+wide-small l =
+    let P : ℕ → Type 0 = λ x. x < 32 in
+    either P (eqb l 0) (lit< tt) (either P (eqb l 1) (lit< tt) (either P (eqb l 2) (lit< tt) (lit< tt)))
+
 mux-small : (l choice : ℕ) → l < 4 → muxSignal l choice < 32
 mux-small l choice h =
     let P : ℕ → Type 0 = λ x. x < 32 in
     either P (eqb choice 0) (omega arith)
     (either P (eqb choice 1) (omega arith)
-    (either P (eqb choice 2) (omega arith)
-    (either P (eqb choice 3) (either P (eqb l 0) (lit< tt) (either P (eqb l 1) (lit< tt) (either P (eqb l 2) (lit< tt) (lit< tt)))) (omega arith))))
+    (either P (eqb choice 2) (omega arith) (either P (eqb choice 3) (wide-small l) (omega arith))))
 
 module _ (n m s : ℕ) (body : List ℕ) (here : s < n) where
   abbrev In : Source → Type 0

@@ -2,12 +2,13 @@
 -- the edge.
 use Prim.Native.Nat.{ℕ, zero, suc, _+_, _-_, _*_, _%_, _^_}
 use mathlib.Core.Bool.{false, cond, _&&_}
-use mathlib.Core.List.{List, [], _∷_, map}
+use mathlib.Core.List.{List, [], _∷_}
 use lib.Dec.{ltb, eqb}
 use lib.ListN.{getD}
 use Rattle.netlist.specs.Rule.{bitAt, number}
 use Rattle.netlist.specs.declared.Source.{Source}
 use Rattle.netlist.specs.declared.Source.the-variants.{Constant}
+use Rattle.slicefile.specs.Lists.{tabulate}
 use Rattle.slicefile.specs.Format.{mode, shiftData, mainInput, secondInput, setResetValues, setResetUsed, lutPin, bypassPin, clockEnablePin, setResetPin, writeEnablePin}
 use Rattle.sources.specs.Sources.{pinSource, own, wideSignal}
 
@@ -31,9 +32,9 @@ nextBit v n m s body old b =
     cond (eqb (setResetUsed body) 1 && eqb (v (pinSource n m body setResetPin)) 1) (bitAt (setResetValues body) b)
     (cond (eqb (v (pinSource n m body clockEnablePin)) 1) (v (flopSource n m s body b)) (bitAt old b))
 
--- the flip-flop byte after the edge
+-- the flip-flop byte after the edge, by its 8 bits
 unfoldable pub nextFlops : (Source → ℕ) → ℕ → ℕ → ℕ → List ℕ → ℕ → ℕ
-nextFlops v n m s body old = number (map (nextBit v n m s body old) (0 ∷ 1 ∷ 2 ∷ 3 ∷ 4 ∷ 5 ∷ 6 ∷ 7 ∷ []))
+nextFlops v n m s body old = number (tabulate 0 8 (nextBit v n m s body old))
 
 -- a word with bit i set to b
 abbrev pub withBit : ℕ → ℕ → ℕ → ℕ
@@ -41,7 +42,7 @@ withBit c i b = c - bitAt c i * 2 ^ i + b * 2 ^ i
 
 -- "the address on D1-D6, the same for all four"
 unfoldable pub writeAddress : (Source → ℕ) → ℕ → ℕ → List ℕ → ℕ
-writeAddress v n m body = number (map (λ i. v (pinSource n m body (lutPin 3 i))) (0 ∷ 1 ∷ 2 ∷ 3 ∷ 4 ∷ 5 ∷ []))
+writeAddress v n m body = number (tabulate 0 6 (λ i. v (pinSource n m body (lutPin 3 i))))
 
 -- "shift puts its data at bit 0, bit i to i+1, losing bit 31"
 abbrev pub shifted : ℕ → ℕ → ℕ

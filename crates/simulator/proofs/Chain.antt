@@ -4,7 +4,6 @@ use mathlib.Core.Path.{_≡_, _∙_, refl, ap, subst, subst⁻¹}
 use mathlib.Core.Bool.{Bool, true, false, cond, _&&_}
 use mathlib.Core.List.{List}
 use Prim.Native.Nat.{ℕ, zero, suc, _+_, _*_, _/_, _%_, _^_, _≤_, _<_}
-use native.Mathlib.Nat.{zero-add}
 use native.Mathlib.Omega.{arith}
 use borrow.Author.Tests.{lt-leb}
 use lib.Dec.{eqb, leb}
@@ -13,6 +12,7 @@ use Rattle.netlist.specs.Rule.{bitAt, valueOf}
 use Rattle.netlist.specs.declared.Source.{Source}
 use Rattle.slicefile.specs.Format.{mode, shiftData, bypassPin, writeEnablePin}
 use Rattle.slicefile.specs.declared.Answer.{Answer}
+use Rattle.slicefile.proofs.Tabulate.{tabulate-length, tabulate-at}
 use Rattle.slicefile.specs.declared.Answer.the-variants.{Done}
 use Rattle.rules.specs.Rules.{given}
 use Rattle.series7.specs.Edge.{writeAddress, written, nextWord}
@@ -28,7 +28,6 @@ use Rattle.buffers.proofs.Good.{state-good, words-good, good-words, settle-good
 use Rattle.buffers.proofs.Lengths.{state-lengths}
 use Rattle.calls.specs.Calls.{done, PoweredUp}
 use Rattle.calls.proofs.Demands.{same-sizes, not-refused, called-done, power-up-leaves}
-use Rattle.calls.proofs.Filling.{tabulate-length, tabulate-at}
 use Rattle.simulator.specs.Running.{SettleCalled, ClockCalled}
 use Rattle.simulator.proofs.Demands.{clocks-run}
 
@@ -67,7 +66,7 @@ module _ (file : List ℕ) {n m : ℕ} (j : Judged file (Accepted n m)) where
       (
         state-good n (clocked file st inputs values) size (tabulate-length 0 _ _ ∙ f .count),
         words-good file words
-        (λ t h. rw (tabulate-at 0 (4 * sliceCount file) next t (omega (arith, f .count)), zero-add)
+        (λ t h. rw (tabulate-at (4 * sliceCount file) next t (omega (arith, f .count)))
         (next-allowed _ _ _ (sliceBody file (t / 4)) (t % 4) _ _ (good-words file (st .contents) (good .1) t (omega arith)))),
       )
 

@@ -1,5 +1,5 @@
 -- `edge::edge_of` meets its contract. The loop has filled in the numbers below k. The measure is what is left of the list. Assumes nothing.
-use mathlib.Core.Path.{_≡_, _∙_, sym, refl}
+use mathlib.Core.Path.{_≡_, _∙_, refl}
 use Prim.Native.Nat.{ℕ, _-_, _≤_, _<_}
 use native.Mathlib.Nat.{not-suc-le-zero}
 use native.Mathlib.Omega.{arith}
@@ -7,9 +7,9 @@ use borrow.Author.Count.{below-more}
 use borrow.Author.Needs.{needs}
 use lib.Dec.{lit≤}
 use lib.ListN.{length, getD, length-set}
-use lib.Seq.{getD-set-same, getD-set-other, ext-getD}
-use Rattle.edge.specs.Numbers.{edgeLength, edgeNumber}
-use Rattle.edge.proofs.Table.{numbers-length, number-at}
+use lib.Seq.{getD-set-same, getD-set-other}
+use Rattle.slicefile.proofs.Tabulate.{tabulated}
+use Rattle.edge.specs.Numbers.{edgeLength, edgeNumber, edgeNumbers}
 use Rattle.edge.proofs.edge_of.Statement.{statement}
 use Rattle.edge.proofs.edge_of.Tie as tie
 
@@ -49,11 +49,10 @@ loop-again c =
     )
 
 returns : tie.Need-returns Inv-loop μ-loop
+unfolding edgeNumbers
 returns c =
-    let a = c .before .before .before .args in
     let l = c .before .loop in
-    ext-getD 0 (l .edge) _ (l .inv .1 ∙ sym (numbers-length (a .n) (a .m) (a .s) (a .body .now)))
-    (λ k h. l .inv .2 k (omega arith) ∙ sym (number-at (a .n) (a .m) (a .s) (a .body .now) k (omega arith)))
+    tabulated _ edgeLength (l .edge) (l .inv .1) (λ k h. l .inv .2 k (omega arith))
 
 pub edge-of-spec : {M : Type 1} → statement M
 edge-of-spec =
