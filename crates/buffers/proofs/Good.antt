@@ -87,8 +87,7 @@ module _ (file : List ℕ) (st : State) (inputs values : List ℕ) (n m : ℕ) w
         let l = edit-lengths argument file st inputs values n m e in
         let z = given-none 10 _ (orElse-right (given 10 (badLengths n m st inputs values)) _ e) in
         let w = or-left (badBytes inputs || badBytes values || badWords file (st .contents)) argument z in
-        let b = or-left (badBytes inputs || badBytes values) (badWords file (st .contents)) w in
-        (
+        let b = or-left (badBytes inputs || badBytes values) (badWords file (st .contents)) w in (
           (state-good n st (l .contents) (l .flops), or-right (badBytes inputs || badBytes values) _ w),
           (l .inputs, or-left (badBytes inputs) (badBytes values) b),
           (l .values, or-right (badBytes inputs) (badBytes values) b),

@@ -72,12 +72,11 @@ unfolding powerUp badWord
 power-up-good file {n} {m} j =
     let f = records-sound file j in
     let words = powerUp file .contents in
-    let long : length words ≡ 4 * n = tabulate-length 0 _ _ ∙ ap (λ (k : ℕ). 4 * k) (f .count) in
-    (
+    let long : length words ≡ 4 * n = tabulate-length 0 _ _ ∙ ap (λ (k : ℕ). 4 * k) (f .count) in (
       state-good n (powerUp file) long (tabulate-length 0 _ _ ∙ f .count),
       words-good file words
-      (λ t h. rw (tabulate-at (4 * sliceCount file) (λ t. contentsWord (sliceBody file (t / 4)) (t % 4)) t (omega (arith, f .count)))
-      (shift-fits n m (t / 4) (sliceBody file (t / 4)) (body-good file f (t / 4) (omega arith)) (t % 4) (omega arith))),
+          (λ t h. rw (tabulate-at (4 * sliceCount file) (λ t. contentsWord (sliceBody file (t / 4)) (t % 4)) t (omega (arith, f .count)))
+          (shift-fits n m (t / 4) (sliceBody file (t / 4)) (body-good file f (t / 4) (omega arith)) (t % 4) (omega arith))),
     )
 
 pub power-up-leaves : (file : List ℕ) (old new : State) {n m : ℕ} → Judged file (Accepted n m) → PoweredUp file old new Done → GoodState file n new

@@ -76,16 +76,14 @@ module _ (file : List ℕ) {n m : ℕ} (sound : checkFile file ≡ Sound n m) wh
   -- the judge answers 9 exactly when some signal is on a loop
   pub nine-exactly : {v : Verdict} → Judged file v → ((p : ℕ) × (v ≡ Refused 9 p)) ↔ Looped
   nine-exactly (bad e) = absurd (sound-not-bad (checkFile file) sound e)
-  nine-exactly (accepted {n = i} {m = j} e free) =
-      (
-        λ r. absurd (not-both (Refused 9 (r .0)) refl (sym (r .1))),
-        λ l. absurd (no-signal (checkFile file) (Loop file) e sound free (l .1) (l .2)),
-      )
-  nine-exactly (loop {p = p} e below on least) =
-      (
-        λ r. (p, subst (λ (k : ℕ). p < signalCount k) (same-count (checkFile file) e sound) below, on),
-        λ l. (p, refl),
-      )
+  nine-exactly (accepted {n = i} {m = j} e free) = (
+    λ r. absurd (not-both (Refused 9 (r .0)) refl (sym (r .1))),
+    λ l. absurd (no-signal (checkFile file) (Loop file) e sound free (l .1) (l .2)),
+  )
+  nine-exactly (loop {p = p} e below on least) = (
+    λ r. (p, subst (λ (k : ℕ). p < signalCount k) (same-count (checkFile file) e sound) below, on),
+    λ l. (p, refl),
+  )
 
   -- and gives no other refusal
   pub sound-nine : {k p : ℕ} → Judged file (Refused k p) → k ≡ 9

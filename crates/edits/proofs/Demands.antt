@@ -108,8 +108,7 @@ module _ (file : List ℕ) {n m : ℕ} (j : Judged file (Accepted n m)) where
   table-leaves contents left flops table word inputs old new z e d =
       let good = edit-tells file (stateOf contents flops) inputs old n m (badTable file n table word) z in
       let sized = state-lengths n (stateOf contents flops) (good .0 .0) in
-      let allowed = or-right (leb (4 * n) table) (badWord file table word) (edit-argument (badTable file n table word) file (stateOf contents flops) inputs old n m z) in
-      (
+      let allowed = or-right (leb (4 * n) table) (badWord file table word) (edit-argument (badTable file n table word) file (stateOf contents flops) inputs old n m z) in (
         rw e (state-good n (stateOf (set contents table word) flops) (length-set contents table word ∙ sized .0) (sized .1), set-words file contents table word (good .0 .1) allowed),
         good .1,
         values-good (touchesTable table) (stateOf left flops) inputs old new (good .2) d,

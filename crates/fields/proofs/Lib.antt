@@ -4,3 +4,4 @@ pub mod Digits
 pub mod Pieces
 pub mod Fields
 pub mod RoundTrip
+pub mod Typing

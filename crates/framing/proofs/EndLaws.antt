@@ -53,11 +53,10 @@ pub end-test : (s : List ℕ) → headLength ≤ length s → ((eqb (byteAt s 0)
 end-test s h =
     let a = eqb (byteAt s 0) 3 in
     let b = eqb (byteAt s 1) 0 in
-    let c = eqb (byteAt s 2) 0 in
-    (
+    let c = eqb (byteAt s 2) 0 in (
       λ e. let ab = both (a && b) c e in
-      let each = both a b (ab .0) in
-      first-three s h ∙ simp (eqb-true (byteAt s 0) 3 (each .0), eqb-true (byteAt s 1) 0 (each .1), eqb-true (byteAt s 2) 0 (ab .1)),
+          let each = both a b (ab .0) in
+          first-three s h ∙ simp (eqb-true (byteAt s 0) 3 (each .0), eqb-true (byteAt s 1) 0 (each .1), eqb-true (byteAt s 2) 0 (ab .1)),
       λ e. let d = bytes-end s h e in simp (d .first, d .second, d .third),
     )
 

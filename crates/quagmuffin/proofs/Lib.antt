@@ -1,2 +1,4 @@
 pub mod Small
 pub mod Bodies
+pub mod Exported
+pub mod RoundTrip

@@ -70,7 +70,7 @@ SmallChecked (Sound n m) = Unit {0}
 
 first-small : (r place : ℕ) (rest : Checked) → r ≤ 11 → place ≤ fileLimit → (r ≡ 0 → SmallChecked rest) → SmallChecked (firstBad r place rest)
 first-small zero place rest h l later = later refl
-first-small (suc r) place rest h l later = (h, l)
+first-small (suc r) place rest h l later = (omega arith, h, l)
 
 end-small : (n m place : ℕ) (s : List ℕ) → place + recordLength endTag ≤ fileLimit → SmallChecked (checkEnd n m place s)
 unfolding checkEnd
@@ -95,13 +95,13 @@ checked-small file =
 pub judged-small : (file : List ℕ) {v : Verdict} → Judged file v → SmallVerdict v
 judged-small file (bad e) = subst SmallChecked e (checked-small file)
 judged-small file (accepted e free) = let f = sound-file file e in (f .slices-fit, f .inputs-fit)
-judged-small file (loop e below on least) = let f = sound-file file e in (omega arith, omega (arith, f .slices-fit))
+judged-small file (loop e below on least) = let f = sound-file file e in (omega arith, omega arith, omega (arith, f .slices-fit))
 
 -- the answer of a call on a file, whose own refusal is at most 11
 pub called-small : {file : List ℕ} {own : ℕ → ℕ → ℕ} {Kept : Type 0} {Did : ℕ → ℕ → Type 0} {r : Answer} → ((n m : ℕ) → own n m ≤ 11)
     → Called file own Kept Did r → SmallAnswer r
 called-small {file} most (judged j kept) = judged-small file j
-called-small most (refused {n} {m} j e kept) = (omega (arith, most n m), omega arith)
+called-small most (refused {n} {m} j e kept) = (omega arith, omega (arith, most n m), omega arith)
 called-small most (done j e did) = tt
 
 -- the calls' own refusals
@@ -138,4 +138,4 @@ write-most r n m size =
 
 pub answer-small : (k : ℕ) → k ≤ 11 → SmallAnswer (answerOf k)
 answer-small zero h = tt
-answer-small (suc k) h = (h, omega arith)
+answer-small (suc k) h = (omega arith, h, omega arith)

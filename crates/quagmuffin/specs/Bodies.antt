@@ -1,5 +1,6 @@
 -- The record calls by the body of a record: 124 bytes, "the record's fields in the file's layout"; another length is 10, first of all.
 use Prim.Native.Nat.{ℕ}
+use mathlib.Core.Path.{_≡_}
 use mathlib.Core.Bool.{Bool, not}
 use mathlib.Core.List.{List}
 use lib.Dec.{eqb}
@@ -7,7 +8,8 @@ use lib.ListN.{length}
 use Rattle.slicefile.specs.Format.{sliceTag, bodyLength}
 use Rattle.rules.specs.Rules.{given, _orElse_}
 use Rattle.fields.specs.Record.{recordOf, bodyBytes}
-use Rattle.records.specs.Calls.{readRefusal, writeRefusal, unless, readRecord, written}
+use Rattle.records.specs.Calls.{readRefusal, writeRefusal, answerOf, unless, readRecord, written}
+use Rattle.quagmuffin.specs.Packed.{packAnswer}
 
 abbrev pub badBody : List ℕ → Bool
 badBody body = not (eqb (length body) (bodyLength sliceTag))
@@ -25,3 +27,10 @@ writeBodyRefusal body n m part = given 10 (badBody body) orElse writeRefusal (re
 
 unfoldable pub bodyWritten : List ℕ → ℕ → ℕ → List ℕ → List ℕ
 bodyWritten body n m part = unless (given 10 (badBody body)) (written (recordOf body) n m part) part
+
+-- what the two calls answer and leave
+abbrev pub RecordRead : List ℕ → ℕ → ℕ → List ℕ → List ℕ → ℕ → Type 0
+RecordRead s n m old new number = (number ≡ packAnswer (answerOf (readBodyRefusal s n m old))) × (new ≡ bodyRead s n m old)
+
+abbrev pub RecordWritten : List ℕ → ℕ → ℕ → List ℕ → List ℕ → ℕ → Type 0
+RecordWritten body n m old new number = (number ≡ packAnswer (answerOf (writeBodyRefusal body n m old))) × (new ≡ bodyWritten body n m old)

@@ -10,7 +10,7 @@ ghost use Rattle.simulator.specs.Running.{SettleCalled, ClockCalled};
 ghost use Rattle.edits.specs.Edits.{InputEdited, TableEdited};
 ghost use Rattle.fields.specs.Record.{bodyBytes};
 ghost use Rattle.records.specs.Calls.{readRefusal, answerOf, unless, readRecord};
-ghost use Rattle.quagmuffin.specs.Bodies.{readBodyRefusal, bodyRead, writeBodyRefusal, bodyWritten};
+ghost use Rattle.quagmuffin.specs.Bodies.{RecordRead, RecordWritten};
 ghost use Rattle.quagmuffin.specs.Packed.{pack, packAnswer, packVerdict, SmallAnswer, SmallVerdict, Packed, Answered};
 use column::Verdict;
 use slicefile::Answer;
@@ -141,7 +141,7 @@ fn read_body(bytes: &[u8], n: usize, m: usize, body: &mut [u8]) -> Answer
 // Reads one slice record, of 127 bytes, of a file of n slices and m outside inputs, into a body of 124 bytes.
 #[no_mangle]
 pub extern "C" fn qm_read_record(bytes: &[u8], n: usize, m: usize, body: &mut [u8]) -> u64
-    ensures { λ r. ⌜ (r ≡ packAnswer (answerOf (readBodyRefusal (now (bytes .entry)) n m (now (body .entry))))) × (now (body .exit) ≡ bodyRead (now (bytes .entry)) n m (now (body .entry))) ⌝ }
+    ensures { λ r. ⌜ RecordRead (now (bytes .entry)) n m (now (body .entry)) (now (body .exit)) r ⌝ }
 {
     if body.len() != SLICE_BODY {
         return 10;
@@ -152,7 +152,7 @@ pub extern "C" fn qm_read_record(bytes: &[u8], n: usize, m: usize, body: &mut [u
 // Writes the record with a body of 124 bytes into the first 127 bytes of a part of a file of n slices and m outside inputs.
 #[no_mangle]
 pub extern "C" fn qm_write_record(body: &[u8], n: usize, m: usize, part: &mut [u8]) -> u64
-    ensures { λ r. ⌜ (r ≡ packAnswer (answerOf (writeBodyRefusal (now (body .entry)) n m (now (part .entry))))) × (now (part .exit) ≡ bodyWritten (now (body .entry)) n m (now (part .entry))) ⌝ }
+    ensures { λ r. ⌜ RecordWritten (now (body .entry)) n m (now (part .entry)) (now (part .exit)) r ⌝ }
 {
     if body.len() != SLICE_BODY {
         return 10;

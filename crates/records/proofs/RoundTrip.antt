@@ -2,10 +2,10 @@
 use mathlib.Core.Path.{_≡_, refl, _∙_, sym}
 use mathlib.Core.Bool.{not}
 use mathlib.Core.List.{List, _++_}
-use Prim.Native.Nat.{ℕ, _≤_}
+use Prim.Native.Nat.{ℕ, zero, suc, _≤_}
 use native.Mathlib.Omega.{arith}
 use borrow.Author.Tests.{eqb-true, not-false, le-ltb}
-use lib.Dec.{ltb, eqb}
+use lib.Dec.{ltb, eqb, lit<}
 use lib.ListN.{length, take, drop, replicate, length-drop}
 use lib.Seq.{take-all, take-at, length-take-le}
 use Rattle.slicefile.specs.Format.{sliceTag, bodyLength, recordLength, bodyOf, byteAt}
@@ -20,7 +20,8 @@ use Rattle.fields.specs.declared.Record.{Record}
 use Rattle.fields.proofs.Pieces.{piece, join, piece-byte, below-piece}
 use Rattle.fields.proofs.Encoding.{length-bodyBytes, length-recordBytes}
 use Rattle.fields.proofs.RoundTrip.{bytes-of-record, record-of-bytes}
-use Rattle.records.specs.Calls.{zeroRecord, recordRefusal, readRefusal, writeRefusal, readRecord, written}
+use Rattle.fields.proofs.Typing.{bytes-typed}
+use Rattle.records.specs.Calls.{unless, zeroRecord, recordRefusal, readRefusal, writeRefusal, readRecord, written}
 use Rattle.records.proofs.Answers.{read-done, write-done}
 
 -- past their first test the two calls judge alike
@@ -58,6 +59,20 @@ read-written r t n m part h =
     let b : bodyOf sliceTag (recordBytes r) ≡ bodyBytes r = take-all (bodyLength sliceTag) (bodyBytes r) (omega (arith, length-bodyBytes r (t .sized))) in
     let q : recordOf (bodyOf sliceTag (recordBytes r)) ≡ r = rw b (record-of-bytes r t) in
     rw e (read-done (recordBytes r) n m (rest-read (recordBytes r) n m l (write-rest r n m (length part) h)) ∙ (λ i. record { answer = Done; slice = q i }))
+
+-- what the reader gives, also where it refuses, is what the field types allow
+zeros-below : (k : ℕ) → Below 256 (replicate k 0)
+zeros-below zero i = lit< tt
+zeros-below (suc k) zero = lit< tt
+zeros-below (suc k) (suc i) = zeros-below k i
+
+unless-typed : (k : ℕ) {r z : Record} → Typed r → Typed z → Typed (unless k r z)
+unless-typed zero t u = t
+unless-typed (suc k) t u = u
+
+pub read-typed : (s : List ℕ) (n m : ℕ) → Below 256 s → Typed (readRecord s n m .slice)
+unfolding readRecord zeroRecord
+read-typed s n m b = unless-typed (readRefusal s n m) (bytes-typed (bodyOf sliceTag s) (below-piece s 3 124 b)) (bytes-typed (replicate 124 0) (zeros-below 124))
 
 -- the bytes of the record that was read
 pub bytes-of-read : (s : List ℕ) (n m : ℕ) → Below 256 s → readRefusal s n m ≡ 0 → recordBytes (recordOf (bodyOf sliceTag s)) ≡ s

@@ -62,12 +62,11 @@ module _ (file : List ℕ) {n m : ℕ} (j : Judged file (Accepted n m)) where
       let long = state-lengths n st (good .0) .0 in
       let next : ℕ → ℕ = λ t. nextWord (valueOf inputs values) (sliceCount file) (inputCount file) (sliceBody file (t / 4)) (t % 4) (getD (st .contents) t 0) (getD (st .contents) (t + 1) 0) in
       let words = clocked file st inputs values .contents in
-      let size : length words ≡ 4 * n = tabulate-length 0 _ _ ∙ ap (λ (k : ℕ). 4 * k) (f .count) in
-      (
+      let size : length words ≡ 4 * n = tabulate-length 0 _ _ ∙ ap (λ (k : ℕ). 4 * k) (f .count) in (
         state-good n (clocked file st inputs values) size (tabulate-length 0 _ _ ∙ f .count),
         words-good file words
-        (λ t h. rw (tabulate-at (4 * sliceCount file) next t (omega (arith, f .count)))
-        (next-allowed _ _ _ (sliceBody file (t / 4)) (t % 4) _ _ (good-words file (st .contents) (good .1) t (omega arith)))),
+            (λ t h. rw (tabulate-at (4 * sliceCount file) next t (omega (arith, f .count)))
+            (next-allowed _ _ _ (sliceBody file (t / 4)) (t % 4) _ _ (good-words file (st .contents) (good .1) t (omega arith)))),
       )
 
   pub settle-leaves : (st : State) (inputs old new : List ℕ) → SettleCalled file st inputs old new Done → GoodValues n new

@@ -30,14 +30,17 @@ clock-unique file st moved moved′ inputs old new new′ c c′ =
 pub clocks-run : (file : List ℕ) {start : State} (states : ℕ → State) (inputs olds tables : ℕ → List ℕ) (K : ℕ) → states 0 ≡ start
     → ((k : ℕ) → k < K → ClockCalled file (states k) (states (suc k)) (inputs k) (olds k) (tables k) Done)
     → (r : Run file start inputs K) × (r .states ≡ states) × (r .tables ≡ tables)
-clocks-run file states inputs olds tables K from each =
-    (record {
-      states = states;
-      tables = tables;
-      begins = from;
-      settled = λ k l. called-done file _ (each k l) .4 .1;
-      moves = λ k l. called-done file _ (each k l) .4 .0;
-    }, refl, refl)
+clocks-run file states inputs olds tables K from each = (
+  record {
+    states = states;
+    tables = tables;
+    begins = from;
+    settled = λ k l. called-done file _ (each k l) .4 .1;
+    moves = λ k l. called-done file _ (each k l) .4 .0;
+  },
+  refl,
+  refl,
+)
 
 pub run-determined : (file : List ℕ) {n m : ℕ} → Judged file (Accepted n m) → {start : State} {inputs : ℕ → List ℕ} {K : ℕ} (r r′ : Run file start inputs K) (k : ℕ) → k ≤ K
     → r .states k ≡ r′ .states k

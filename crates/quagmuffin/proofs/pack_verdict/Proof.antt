@@ -11,7 +11,7 @@ enum-known-verdict : tie.Need-enum-known-verdict
 enum-known-verdict c = search needs
 
 pack-number-requires : tie.Need-pack-number-requires
-pack-number-requires c κs = let s : SmallVerdict (Refused _ _) = subst SmallVerdict (c .before .verdict .given .1) (c .before .before .before .pre) in (s .0, omega (arith, s .1))
+pack-number-requires c κs = let s : SmallVerdict (Refused _ _) = subst SmallVerdict (c .before .verdict .given .1) (c .before .before .before .pre) in (s .1, omega (arith, s .2))
 
 enum-known-verdict-2 : tie.Need-enum-known-verdict-2
 enum-known-verdict-2 c = search needs
