@@ -57,6 +57,11 @@ module _ (file : List ℕ) (own : ℕ → ℕ → ℕ) where
   pub called-done : {Kept : Type 0} {Did : ℕ → ℕ → Type 0} → Called file own Kept Did Done → (n : ℕ) × (m : ℕ) × Judged file (Accepted n m) × (own n m ≡ 0) × Did n m
   called-done (done {n} {m} a e d) = (n, m, a, e, d)
 
+  -- "a refusal writes nothing"
+  pub refused-kept : {Kept : Type 0} {Did : ℕ → ℕ → Type 0} {k p : ℕ} → Called file own Kept Did (AnswerRefused k p) → Kept
+  refused-kept (judged a s) = s
+  refused-kept (refused a e s) = s
+
   -- a call on an accepted file that doesn't refuse its own buffers is done
   pub not-refused : {Kept : Type 0} {Did : ℕ → ℕ → Type 0} {r : Answer} {n m : ℕ} → Judged file (Accepted n m) → own n m ≡ 0 → Called file own Kept Did r → r ≡ Done
   not-refused j z (judged a s) = absurd (clash file a j)

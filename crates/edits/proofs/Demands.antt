@@ -1,7 +1,7 @@
 -- What the promises of the edits come to: each settles its answer and every byte it leaves; an edited table that was settled is the table settled
 -- afresh; and what an edit leaves is good for the next call. Assumes nothing.
 use mathlib.Core.Path.{_≡_, _∙_, sym}
-use mathlib.Core.Bool.{Bool}
+use mathlib.Core.Bool.{Bool, false}
 use mathlib.Core.List.{List}
 use Prim.Native.Nat.{ℕ, _*_}
 use native.Mathlib.Omega.{arith}
@@ -23,10 +23,10 @@ use Rattle.column.specs.declared.Verdict.the-variants.{Accepted}
 use Rattle.column.proofs.Tables.{records-sound, closed, ordered, settled-once}
 use Rattle.column.proofs.Verdicts.{accepted-free}
 use Rattle.buffers.specs.Buffers.{badWord, editRefusal, badInput, badTable, GoodState, GoodInputs, GoodValues}
-use Rattle.buffers.proofs.Good.{bytes-good, good-bytes, set-bytes, set-words, state-good, edit-tells}
+use Rattle.buffers.proofs.Good.{bytes-good, good-bytes, set-bytes, set-words, state-good, edit-good, edit-tells}
 use Rattle.buffers.proofs.Lengths.{state-lengths, edit-lengths, edit-argument}
 use Rattle.calls.specs.Calls.{done}
-use Rattle.calls.proofs.Demands.{same-sizes, agree}
+use Rattle.calls.proofs.Demands.{same-sizes, agree, not-refused}
 use Rattle.edits.specs.Edits.{EditedFor, InputEdited, TableEdited}
 
 module _ (file : List ℕ) {n m : ℕ} (j : Judged file (Accepted n m)) where
@@ -88,8 +88,18 @@ pub table-edit-settles : (file contents left flops : List ℕ) (table word : ℕ
     → SettledFor file (stateOf contents flops) inputs old → SettledAfresh file (stateOf left flops) inputs new
 table-edit-settles file contents left flops table word inputs old new (done j z d) before = table-settles file j contents left flops table word inputs old new (d .0) (d .1) before
 
--- ---- calls chain: what an edit leaves is good for the next call on the file
+-- ---- calls chain: an edit takes a good state, good inputs and good values, with an argument in range, and what it leaves is good for the next call
 module _ (file : List ℕ) {n m : ℕ} (j : Judged file (Accepted n m)) where
+  module _ (inputs old : List ℕ) {r : Answer} (given : GoodInputs m inputs) (values : GoodValues n old) where
+    pub input-edit-taken : (st : State) (input byte : ℕ) (left new : List ℕ) → GoodState file n st → badInput m input byte ≡ false
+        → InputEdited file st input byte inputs left old new r → r ≡ Done
+    input-edit-taken st input byte left new good fits c = not-refused file _ j (edit-good file st inputs old n m (badInput m input byte) good given values fits) c
+
+    pub table-edit-taken : (contents left flops : List ℕ) (table word : ℕ) (new : List ℕ) → GoodState file n (stateOf contents flops)
+        → badTable file n table word ≡ false → TableEdited file contents left flops table word inputs old new r → r ≡ Done
+    table-edit-taken contents left flops table word new good fits c =
+        not-refused file _ j (edit-good file (stateOf contents flops) inputs old n m (badTable file n table word) good given values fits) c
+
   values-good : (touches : Gate → Bool) (st : State) (inputs old new : List ℕ) → GoodValues n old → EditedFor file touches st inputs old new n → GoodValues n new
   values-good touches st inputs old new good d =
       let long : length new ≡ signalCount n = d .size ∙ good .0 in

@@ -1,24 +1,30 @@
 -- What an exported answer tells: its number, unpacked, is the answer of the call below; 0 in its low 8 bits is done, or accepted; and the number and
--- every byte left are determined. Assumes nothing.
+-- every byte left are determined; and a refusal leaves every buffer as it was. Assumes nothing.
 use mathlib.Core.Path.{_≡_, refl, sym, _∙_, ap, subst, subst⁻¹}
+use mathlib.Core.Bool.{Bool, true, false}
 use mathlib.Core.List.{List}
 use Prim.Native.Nat.{ℕ, _+_, _*_, _/_, _%_, _≤_}
 use native.Mathlib.Omega.{arith}
 use borrow.Author.Tests.{ne-eqb}
+use lib.ListN.{length}
 use Rattle.slicefile.specs.declared.Answer.{Answer}
 use Rattle.slicefile.specs.declared.Answer.the-variants.{Refused, Done}
-use Rattle.column.specs.Clock.{State, stateOf}
+use Rattle.rules.specs.Rules.{given, _orElse_}
+use Rattle.fields.specs.Record.{recordOf}
+use Rattle.records.specs.Calls.{writeRefusal, answerOf, unless, written}
+use Rattle.records.proofs.Answers.{kept-refused}
+use Rattle.column.specs.Clock.{State}
 use Rattle.column.specs.Judge.{Judged}
 use Rattle.column.specs.declared.Verdict.{Verdict}
 use Rattle.column.specs.declared.Verdict.the-variants.{Refused as VerdictRefused, Accepted}
 use Rattle.column.proofs.Verdicts.{judged-unique}
 use Rattle.calls.specs.Calls.{Called, PoweredUp}
-use Rattle.calls.proofs.Demands.{power-up-unique}
+use Rattle.calls.proofs.Demands.{refused-kept as call-kept, power-up-unique}
 use Rattle.simulator.specs.Running.{SettleCalled, ClockCalled}
 use Rattle.simulator.proofs.Demands.{settle-unique, clock-unique}
 use Rattle.edits.specs.Edits.{InputEdited, TableEdited}
 use Rattle.edits.proofs.Demands.{input-edit-unique, table-edit-unique}
-use Rattle.quagmuffin.specs.Bodies.{RecordRead, RecordWritten}
+use Rattle.quagmuffin.specs.Bodies.{badBody, readBodyRefusal, bodyRead, writeBodyRefusal, bodyWritten, RecordRead, RecordWritten}
 use Rattle.quagmuffin.specs.Packed.{pack, packAnswer, packVerdict, unpackAnswer, unpackVerdict, Packed, Answered, SmallAnswer, SmallVerdict}
 use Rattle.quagmuffin.proofs.Small.{judged-small, called-small}
 
@@ -56,6 +62,27 @@ module _ {file : List ℕ} {own : ℕ → ℕ → ℕ} {Kept : Type 0} {Did : �
       go : (a : Answer) {i : ℕ} → Called file own Kept Did a → i ≡ packAnswer a → i % 256 ≡ 0 → (i ≡ 0) × Called file own Kept Did Done
       go (Refused k q) c f z = let s = called-small most c in absurd (omega (arith, s .0, s .1))
       go Done c f z = (f, c)
+
+  -- any other number is a refusal: nothing was written
+  pub refused-kept : {i : ℕ} → Answered (Called file own Kept Did) i → (i ≡ 0 → ⊥) → Kept
+  refused-kept {i} p ne = go (p .answer) (p .promised) (p .same)
+    where
+      go : (a : Answer) → Called file own Kept Did a → i ≡ packAnswer a → Kept
+      go (Refused k q) c f = call-kept file own c
+      go Done c f = absurd (ne f)
+
+pub read-refused-kept : (s : List ℕ) (n m : ℕ) (old new : List ℕ) {i : ℕ} → RecordRead s n m old new i → (i ≡ 0 → ⊥) → new ≡ old
+unfolding bodyRead
+read-refused-kept s n m old new r ne = r .1 ∙ sym (kept-refused (readBodyRefusal s n m old) _ old (λ e. ne (r .0 ∙ ap (λ (k : ℕ). packAnswer (answerOf k)) e)))
+
+either-kept : (t : Bool) (k : ℕ) (done kept : List ℕ) → ((given 10 t orElse k) ≡ 0 → ⊥) → unless (given 10 t) (unless k done kept) kept ≡ kept
+either-kept true k done kept ne = refl
+either-kept false k done kept ne = sym (kept-refused k done kept ne)
+
+pub write-refused-kept : (body : List ℕ) (n m : ℕ) (old new : List ℕ) {i : ℕ} → RecordWritten body n m old new i → (i ≡ 0 → ⊥) → new ≡ old
+unfolding bodyWritten writeBodyRefusal written
+write-refused-kept body n m old new r ne =
+    r .1 ∙ either-kept (badBody body) (writeRefusal (recordOf body) n m (length old)) _ old (λ e. ne (r .0 ∙ ap (λ (k : ℕ). packAnswer (answerOf k)) e))
 
 -- ---- the number and every byte left are determined
 once : {A X : Type 0} {packed : A → ℕ} {P Q : A → Type 0} {i j : ℕ} → ((a b : A) → P a → Q b → (a ≡ b) × X) → Packed packed P i → Packed packed Q j → (i ≡ j) × X

@@ -79,13 +79,23 @@ module _ (file : List ℕ) {n m : ℕ} (j : Judged file (Accepted n m)) where
       let good = same-sizes file (λ n m. GoodState file n st) j (d .2) (z .0) in
       (subst⁻¹ (GoodState file n) (d .4 .0) (clocked-good st inputs new good), settled-good file j st inputs new (d .4 .1))
 
+  -- settle and clock take a good state and good inputs
+  module _ (st : State) (inputs old : List ℕ) (good : GoodState file n st) (given : GoodInputs m inputs) (long : length old ≡ signalCount n) where
+    none-refused : settleRefusal file st inputs old n m ≡ 0
+    none-refused = settle-good file st inputs old n m good given long
+
+    pub settle-taken : (new : List ℕ) {r : Answer} → SettleCalled file st inputs old new r → r ≡ Done
+    settle-taken new c = not-refused file (settleRefusal file st inputs old) j none-refused c
+
+    pub clock-taken : (moved : State) (new : List ℕ) {r : Answer} → ClockCalled file st moved inputs old new r → r ≡ Done
+    clock-taken moved new c = not-refused file (settleRefusal file st inputs old) j none-refused c
+
   -- clocks, each from the state that the last one left, with good inputs and value buffers of their length
   module _ (states : ℕ → State) (inputs olds tables : ℕ → List ℕ) (answers : ℕ → Answer) (K : ℕ) (start : GoodState file n (states 0))
       (lent : (k : ℕ) → k < K → GoodInputs m (inputs k) × (length (olds k) ≡ signalCount n))
       (calls : (k : ℕ) → k < K → ClockCalled file (states k) (states (suc k)) (inputs k) (olds k) (tables k) (answers k)) where
     done-at : (k : ℕ) → k < K → GoodState file n (states k) → answers k ≡ Done
-    done-at k l good =
-        not-refused file (settleRefusal file (states k) (inputs k) (olds k)) j (settle-good file (states k) (inputs k) (olds k) n m good (lent k l .0) (lent k l .1)) (calls k l)
+    done-at k l good = clock-taken (states k) (inputs k) (olds k) good (lent k l .0) (lent k l .1) (states (suc k)) (tables k) (calls k l)
 
     good-at : (k : ℕ) → k ≤ K → GoodState file n (states k)
     good-at zero l = start
