@@ -1,20 +1,36 @@
 //! How long each call of the library takes on columns of 1 to 64 slices, and how much stack. Nothing here passes or fails.
-//! Given a call and a file, makes that call once, for a profiler.
+//! Given a call and a column, makes that call once, for a profiler.
 
 use bench::calls::{on_library, on_model, Bench, Call};
 use bench::columns::{self, NAMED};
 use bench::stack::depth;
 use bench::timing::{Spread, Times, ROUNDS, RUN};
 use std::hint::black_box;
+use std::process::ExitCode;
 
 const SIZES: [usize; 7] = [1, 2, 4, 8, 16, 32, 64];
 
-fn main() {
-    let arguments: Vec<String> = std::env::args().skip(1).collect();
-    match &arguments[..] {
-        [] => report(),
-        [call, file] => once(call, file),
-        _ => eprintln!("usage: bench [CALL FILE]"),
+fn main() -> ExitCode {
+    let words = std::env::args_os().skip(1);
+    let words: Vec<String> = words.map(|word| word.to_string_lossy().into()).collect();
+    let done = match &words[..] {
+        [] => {
+            report();
+            Ok(())
+        }
+        [word] if word == "--help" => {
+            print!("{}", include_str!("../../help/bench"));
+            Ok(())
+        }
+        [call, column] => once(call, column),
+        _ => Err("no argument, or a call and a column; --help says more".to_string()),
+    };
+    match done {
+        Ok(()) => ExitCode::SUCCESS,
+        Err(why) => {
+            eprintln!("bench: {why}");
+            ExitCode::from(2)
+        }
     }
 }
 
@@ -27,17 +43,26 @@ fn report() {
     stack();
 }
 
-/// A call, by its name, once on a column of 64 slices, by its name.
-fn once(call: &str, file: &str) {
-    let call = Call::ALL.into_iter().find(|known| known.name() == call);
-    let answer = named(file).library(call.expect("a call's name"));
-    println!("{answer:?}");
+/// A call, by its name, once on a column of 64 slices, by its name. Or that there is no such name.
+fn once(call: &str, column: &str) -> Result<(), String> {
+    let known = Call::ALL.into_iter().find(|known| known.name() == call);
+    let names = Call::ALL.map(Call::name).join(", ");
+    let known = known.ok_or(format!("no call {call:?}, but {names}"))?;
+    let names = NAMED.map(|(name, _)| name).join(", ");
+    let bench = find(column).ok_or(format!("no column {column:?}, but {names}"));
+    println!("{:?}", bench?.library(known));
+    Ok(())
 }
 
-/// The column of 64 slices of a name.
+/// The column of 64 slices of a name, if there is one.
+fn find(name: &str) -> Option<Bench> {
+    let (_, column) = NAMED.iter().find(|(known, _)| *known == name)?;
+    Some(Bench::new(column(64).bytes()))
+}
+
+/// The column of 64 slices of a name that there is.
 fn named(name: &str) -> Bench {
-    let column = NAMED.iter().find(|(known, _)| *known == name);
-    Bench::new(column.expect("a column's name").1(64).bytes())
+    find(name).expect("a column's name")
 }
 
 fn line(name: &str, spread: Spread, digits: usize, note: &str) {

@@ -60,18 +60,28 @@ pub fn name(call: Call) -> String {
 pub fn from_text(text: &str) -> Result<Case, String> {
     let mut lines = BTreeMap::new();
     for line in text.lines().filter(|line| !line.starts_with('#')) {
-        let (name, rest) = line.split_once(' ').ok_or(format!("one word: {line}"))?;
+        let words = line.split_once(' ');
+        let (name, rest) = words.ok_or_else(|| format!("one word: {}", quoted(line)))?;
         if lines.insert(name, rest).is_some() {
-            return Err(format!("twice: {name}"));
+            return Err(format!("twice: {}", quoted(name)));
         }
     }
     let call = lines.remove("call").ok_or("no call")?;
-    let call = parse_call(call).ok_or(format!("no such call: {call}"))?;
+    let call = parse_call(call).ok_or_else(|| format!("no such call: {}", quoted(call)))?;
     let buffers = parse_buffers(&mut lines)?;
     match lines.keys().next() {
-        Some(name) => Err(format!("no such buffer: {name}")),
+        Some(name) => Err(format!("no such buffer: {}", quoted(name))),
         None => Ok(Case { call, buffers }),
     }
+}
+
+/// A part of a text that may be anything, fit to be shown on one line.
+fn quoted(text: &str) -> String {
+    const SHOWN: usize = 40;
+    let mut rest = text.chars();
+    let shown: String = rest.by_ref().take(SHOWN).collect();
+    let more = if rest.next().is_some() { ".." } else { "" };
+    format!("{shown:?}{more}")
 }
 
 fn parse_call(text: &str) -> Option<Call> {
@@ -119,7 +129,8 @@ fn parse_buffers(lines: &mut BTreeMap<&str, &str>) -> Result<Buffers, String> {
 }
 
 fn parse_words(text: &str) -> Result<Vec<u64>, String> {
-    let word = |word| u64::from_str_radix(word, 16).map_err(|_| format!("no word: {word}"));
+    let word =
+        |word| u64::from_str_radix(word, 16).map_err(|_| format!("no word: {}", quoted(word)));
     text.split(' ').map(word).collect()
 }
 
@@ -130,6 +141,6 @@ fn parse_bytes(text: &str) -> Result<Vec<u8>, String> {
             let byte = |pair: &[u32]| (16 * pair[0] + pair[1]) as u8;
             Ok(digits.chunks(2).map(byte).collect())
         }
-        _ => Err(format!("no bytes: {text}")),
+        _ => Err(format!("no bytes: {}", quoted(text))),
     }
 }

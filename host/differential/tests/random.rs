@@ -8,14 +8,14 @@ use library::{read_record, write_record};
 use model::layout::*;
 use model::Workings;
 use program::random::{seed, times};
-use program::run::failing_folder;
+use program::run::differences_folder;
 use program::traps;
 
 /// What was compared, where nothing differs.
 fn agreed(compared: Compared<Counts>) -> Counts {
     match compared {
         Ok(counts) => counts,
-        Err(difference) => panic!("{}", save(&difference, &failing_folder())),
+        Err(difference) => panic!("{}", save(&difference, &differences_folder())),
     }
 }
 

@@ -1,7 +1,7 @@
 //! A difference is saved as a case that repeats it.
 
 use std::path::Path;
-use std::process::Command;
+use std::process::{Command, Output};
 
 use differential::calls::{by_library, Buffers, Call, Caller, Model};
 use differential::comparison::{replayed, Case, Difference, Sides};
@@ -11,12 +11,13 @@ use library::lent::Lent;
 use library::workbench::Workbench;
 use model::Workings;
 use program::column::Column;
+use program::command::{assert_fails, assert_writes};
 use program::random::seed;
 
 /// Saves a difference with a wrong model and reads it back: the case is the same, differs in the same way with
 /// the wrong model, and not at all with the right one.
 fn repeats(difference: &Difference, wrong: &Caller) {
-    let said = save(difference, &folder());
+    let said = save(difference, folder());
     let path = folder().join(format!("failing-{}.case", difference.name));
     assert!(said.starts_with(path.to_str().expect("a path of text")));
     assert!(said.ends_with(&difference.text));
@@ -90,37 +91,74 @@ fn case_as_text() {
 fn texts_that_are_no_case() {
     for (text, error) in [
         ("file 00\n", "no call"),
-        ("call dance\n", "no such call: dance"),
-        ("call settle 1\n", "no such call: settle 1"),
-        ("call edit_input 1 256\n", "no such call: edit_input 1 256"),
-        ("call judge\ncall judge\n", "twice: call"),
-        ("call judge\nbooty 00\n", "no such buffer: booty"),
-        ("call judge\nfile\n", "one word: file"),
-        ("call judge\nfile 012\n", "no bytes: 012"),
-        ("call judge\nfile +1\n", "no bytes: +1"),
-        ("call settle\ncontents 0 x\n", "no word: x"),
+        ("call dance\n", "no such call: \"dance\""),
+        ("call settle 1\n", "no such call: \"settle 1\""),
+        (
+            "call edit_input 1 256\n",
+            "no such call: \"edit_input 1 256\"",
+        ),
+        ("call judge\ncall judge\n", "twice: \"call\""),
+        ("call judge\nbooty 00\n", "no such buffer: \"booty\""),
+        ("call judge\nfile\n", "one word: \"file\""),
+        ("call judge\nfile 012\n", "no bytes: \"012\""),
+        ("call judge\nfile +1\n", "no bytes: \"+1\""),
+        ("call settle\ncontents 0 x\n", "no word: \"x\""),
+        ("\0\x1b[2J", "one word: \"\\0\\u{1b}[2J\""),
+        (
+            "call 0123456789012345678901234567890123456789 0",
+            "no such call: \"0123456789012345678901234567890123456789\"..",
+        ),
     ] {
         assert_eq!(from_text(text), Err(error.to_string()));
     }
 }
 
-/// What the command `replay` writes of a case, and its exit status.
-fn replay(name: &str, text: &str) -> (String, Option<i32>) {
-    let path = folder().join(name);
-    std::fs::write(&path, text).expect("write a case");
+/// The command `replay` on a file.
+fn replay(name: &str, bytes: &[u8]) -> Output {
+    std::fs::write(folder().join(name), bytes).expect("write a case");
+    replay_words(&[name])
+}
+
+/// The command `replay` in the tests' folder.
+fn replay_words(words: &[&str]) -> Output {
     let mut command = Command::new(env!("CARGO_BIN_EXE_replay"));
-    let output = command.arg(path).output().expect("run replay");
-    let text = String::from_utf8(output.stdout).expect("text");
-    (text, output.status.code())
+    let output = command.args(words).current_dir(folder()).output();
+    output.expect("run replay")
 }
 
 #[test]
 fn replay_makes_the_call() {
     let file = Column::zeros(1, 0).pin(0, "A1", 4100).bytes();
     let digits: String = file.iter().map(|byte| format!("{byte:02x}")).collect();
-    let (text, status) = replay("looped.case", &format!("call settle\nfile {digits}\n"));
-    assert_eq!(status, Some(0));
+    let case = format!("call settle\nfile {digits}\n");
     let lines = "call:    settle\nlibrary: refused 9 4\nmodel:   refused 9 4\nno difference\n";
-    assert_eq!(text, lines);
-    assert_eq!(replay("no.case", "call dance\n").1, Some(2));
+    assert_writes(&replay("looped.case", case.as_bytes()), 0, lines);
+}
+
+#[test]
+fn replay_says_what_is_wrong() {
+    let one = "replay: one argument, the file of a saved case\n";
+    assert_fails(&replay_words(&[]), one);
+    assert_fails(&replay_words(&["a", "b"]), one);
+    assert_fails(&replay_words(&["none"]), "replay: none: No such file");
+    assert_fails(&replay_words(&["."]), "replay: .: Is a directory");
+    let dance = replay("dance.case", b"call dance\n");
+    assert_fails(
+        &dance,
+        "replay: dance.case: no case: no such call: \"dance\"\n",
+    );
+    let bytes = replay("bytes.case", b"\xff\xfe");
+    assert_fails(&bytes, "replay: bytes.case: no case: not a text\n");
+    let zeros = replay("zeros.case", &[0; 1000]);
+    assert_fails(&zeros, "replay: zeros.case: no case: one word: \"\\0\\0");
+    assert_fails(
+        &replay_words(&["/dev/zero"]),
+        "replay: /dev/zero: no case: too long\n",
+    );
+}
+
+#[test]
+fn replay_helps() {
+    let text = include_str!("../../help/replay");
+    assert_writes(&replay_words(&["--help"]), 0, text);
 }

@@ -4,6 +4,9 @@ use std::os::unix::fs::PermissionsExt;
 use std::path::Path;
 use std::process::{Command, Output};
 
+use program::command::{assert_fails, assert_writes};
+use program::run::repository;
+
 fn soak(arguments: &[&str], judge: Option<&Path>) -> Output {
     let mut command = Command::new(env!("CARGO_BIN_EXE_soak"));
     if let Some(judge) = judge {
@@ -29,12 +32,23 @@ fn ends_in_time() {
 #[test]
 fn wants_minutes() {
     for arguments in [&[][..], &["x"], &["-1"], &["NaN"], &["1", "2"]] {
-        assert_eq!(
-            soak(arguments, None).status.code(),
-            Some(2),
-            "{arguments:?}"
-        );
+        assert_fails(&soak(arguments, None), "soak: one argument, a number of");
     }
+}
+
+#[test]
+fn wants_a_program() {
+    let output = soak(&["1"], Some(Path::new("/no/program")));
+    assert_fails(
+        &output,
+        "soak: no program at /no/program: run 'rt check judge'",
+    );
+}
+
+#[test]
+fn help() {
+    let text = include_str!("../../help/soak");
+    assert_writes(&soak(&["--help"], None), 0, text);
 }
 
 /// A program that accepts everything is caught, and the file is left behind.
@@ -52,10 +66,14 @@ fn stops_at_a_difference() {
         .filter_map(|line| line.split_once(": the program says "));
     let files: Vec<(&str, &str)> = files.collect();
     assert!(!files.is_empty(), "{told}");
+    let folder = repository().join("differences");
     for (path, answers) in files {
+        assert_eq!(Path::new(path).parent(), Some(&*folder));
         assert!(answers.starts_with("\"accepted 1 0\", the model"));
         let file = std::fs::read(path).expect("the failing file");
         assert_ne!(model::judge(&file).to_string(), "accepted 1 0");
         std::fs::remove_file(path).expect("remove the failing file");
     }
+    // Where it has nothing else, the folder goes as well.
+    let _ = std::fs::remove_dir(folder);
 }

@@ -1,11 +1,11 @@
 //! Writes a slice file as Verilog. `host/verilog` builds and runs it.
 
 use std::ffi::OsString;
-use std::io::{Read, Write};
+use std::io::Write;
 use std::process::ExitCode;
 
 use export::{verilog, Netlist, Stimulus};
-use model::{judge, Design, Rules, Verdict};
+use model::{input, judge, Design, Rules, Verdict};
 
 /// Why there is no Verilog: the exit status and the line that says it.
 struct Failure(u8, String);
@@ -14,6 +14,10 @@ fn main() -> ExitCode {
     let mut words = std::env::args_os().skip(1);
     let file = words.next();
     let words: Vec<String> = words.map(|word| word.to_string_lossy().into()).collect();
+    if file.as_ref().is_some_and(|word| word == "--help") && words.is_empty() {
+        print!("{}", include_str!("../../help/verilog"));
+        return ExitCode::SUCCESS;
+    }
     match run(file, &words) {
         Ok(()) => ExitCode::SUCCESS,
         Err(Failure(status, line)) => {
@@ -26,29 +30,15 @@ fn main() -> ExitCode {
 fn run(file: Option<OsString>, words: &[String]) -> Result<(), Failure> {
     let name = match &file {
         Some(path) => path.to_string_lossy().into_owned(),
-        None => "-".to_string(),
+        None => "standard input".to_string(),
     };
-    let failed =
-        |what: &str, error: std::io::Error| Failure(1, format!("verilog: {what}: {error}"));
-    let bytes = read(file).map_err(|error| failed(&name, error))?;
+    let failed = |why: String| Failure(2, format!("verilog: {why}"));
+    let bytes = input::read(file.as_deref()).map_err(|error| failed(format!("{name}: {error}")))?;
     let design = design(&bytes)?;
-    let usage = |why| format!("verilog: {why}\nusage: verilog [FILE [CLOCKS [INPUTS...]]]");
-    let stimulus = Stimulus::parse(design.m, words).map_err(|why| Failure(2, usage(why)))?;
+    let stimulus = Stimulus::parse(design.m, words).map_err(failed)?;
     let text = verilog(&Netlist::of(&design), &stimulus);
     let written = std::io::stdout().write_all(text.as_bytes());
-    written.map_err(|error| failed("standard output", error))
-}
-
-/// The file, or standard input for `-` or none.
-fn read(file: Option<OsString>) -> std::io::Result<Vec<u8>> {
-    match file {
-        Some(path) if path != "-" => std::fs::read(path),
-        _ => {
-            let mut bytes = vec![];
-            std::io::stdin().read_to_end(&mut bytes)?;
-            Ok(bytes)
-        }
-    }
+    written.map_err(|error| failed(format!("standard output: {error}")))
 }
 
 /// The design of an accepted file, or the judge's line.

@@ -8,6 +8,8 @@ use export::iverilog;
 use model::layout::*;
 use program::cases::worked_file;
 use program::column::Column;
+use program::command::{assert_fails, assert_writes};
+use program::run::repository;
 
 /// Z with outside input 0 on A1, and contents A that pass it on; an outside input more drives nothing.
 fn passes_input() -> Vec<u8> {
@@ -28,7 +30,7 @@ fn saved(name: &str, bytes: &[u8]) -> PathBuf {
 
 /// Runs the program in the tests' folder.
 fn export(words: &[&str], input: Stdio) -> Output {
-    let mut command = Command::new(env!("CARGO_BIN_EXE_export"));
+    let mut command = Command::new(env!("CARGO_BIN_EXE_verilog"));
     command.args(words).current_dir(folder()).stdin(input);
     command.output().expect("the program")
 }
@@ -41,42 +43,71 @@ fn source(words: &[&str]) -> String {
     String::from_utf8(output.stdout).expect("text")
 }
 
-/// It refuses with a status, writing only to standard error, in lines that start so.
-fn refuse(words: &[&str], status: i32, start: &str) {
+/// It refuses a file with a line on standard error.
+fn refuse(words: &[&str], line: &str) {
     let output = export(words, Stdio::null());
     let errors = String::from_utf8_lossy(&output.stderr);
-    assert_eq!(output.status.code(), Some(status), "{words:?}: {errors}");
+    assert_eq!(errors, line, "{words:?}");
+    assert_eq!(output.status.code(), Some(1), "{words:?}");
     assert_eq!(output.stdout, b"", "{words:?}");
-    assert!(errors.starts_with(start), "{words:?}: {errors}");
 }
 
 #[test]
 fn refuses_as_the_judge() {
     saved("looped.bin", &worked_file(5));
     saved("longer.bin", &[worked_file(1), vec![0]].concat());
-    refuse(&["looped.bin", "3"], 1, "refused 9 0\n");
-    refuse(&["longer.bin"], 1, "refused 8 135\n");
-    refuse(&["-"], 1, "refused 1 0\n");
-    refuse(&[], 1, "refused 1 0\n");
+    refuse(&["looped.bin", "3"], "refused 9 0\n");
+    refuse(&["longer.bin"], "refused 8 135\n");
+    refuse(&["-"], "refused 1 0\n");
+    refuse(&[], "refused 1 0\n");
+}
+
+/// Endless input is read no further than it decides.
+#[test]
+fn refuses_endless_input() {
+    refuse(&["/dev/zero"], "refused 2 0\n");
+    let zeros = Stdio::from(File::open("/dev/zero").expect("zeros"));
+    let output = export(&[], zeros);
+    assert_eq!(output.stderr, b"refused 2 0\n");
+}
+
+/// It can't do what the words ask, and says why in one line.
+fn fail(words: &[&str], start: &str) {
+    assert_fails(&export(words, Stdio::null()), start);
 }
 
 #[test]
-fn refuses_other_words() {
+fn fails_on_other_words() {
     saved("words.bin", &passes_input());
-    let clocks = "verilog: CLOCKS is a number from 1 to 1000000\nusage: ";
+    let clocks = "verilog: CLOCKS is a number from 1 to 1000000\n";
     for word in ["0", "1000001", "-1", "x", ""] {
-        refuse(&["words.bin", word], 2, clocks);
+        fail(&["words.bin", word], clocks);
     }
     let inputs = "verilog: INPUTS has 2 digits 0 or 1, one for each outside input\n";
     for word in ["", "0", "000", "02", "0x"] {
-        refuse(&["words.bin", "3", "11", word], 2, inputs);
+        fail(&["words.bin", "3", "11", word], inputs);
     }
-    refuse(
-        &["words.bin", "1", "10", "10"],
-        2,
-        "verilog: more INPUTS than CLOCKS\n",
-    );
-    refuse(&["no such file"], 1, "verilog: ");
+    let more = "verilog: more INPUTS than CLOCKS\n";
+    fail(&["words.bin", "1", "10", "10"], more);
+    fail(&["no such file"], "verilog: no such file: ");
+    fail(&["."], "verilog: .: ");
+    fail(&["--help", "1"], "verilog: --help: ");
+}
+
+#[test]
+fn help() {
+    let text = include_str!("../../help/verilog");
+    assert_writes(&export(&["--help"], Stdio::null()), 0, text);
+}
+
+#[test]
+fn full_output() {
+    saved("full.bin", &passes_input());
+    let mut command = Command::new(env!("CARGO_BIN_EXE_verilog"));
+    let full = File::create("/dev/full").expect("the device");
+    command.arg("full.bin").current_dir(folder()).stdout(full);
+    let output = command.output().expect("the program");
+    assert_fails(&output, "verilog: standard output: ");
 }
 
 #[test]
@@ -118,19 +149,10 @@ fn inputs_clock_by_clock() {
 #[test]
 fn script_runs_from_anywhere() {
     saved("script.bin", &passes_input());
-    let script = Path::new(env!("CARGO_MANIFEST_DIR")).join("../verilog");
-    let output = Command::new(script)
-        .args(["script.bin", "3", "10"])
-        .current_dir(folder())
-        .env(
-            "CARGO_TARGET_DIR",
-            folder().parent().expect("the target folder"),
-        )
-        .output()
-        .expect("the script");
-    assert_eq!(String::from_utf8_lossy(&output.stderr), "");
-    let text = String::from_utf8_lossy(&output.stdout);
-    assert_eq!(text, source(&["script.bin", "3", "10"]));
+    let words = ["script.bin", "3", "10"];
+    let mut script = Command::new(repository().join("host/verilog"));
+    let output = script.args(words).current_dir(folder()).output();
+    assert_writes(&output.expect("the script"), 0, &source(&words));
 }
 
 /// With `+vcd` the run leaves the waves of every signal and pin.

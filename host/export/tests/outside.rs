@@ -10,7 +10,7 @@ use export::{iverilog, Netlist};
 use model::design::{CarryStart, Mode, ShiftData, SIGNALS};
 use model::Design;
 use program::random::{seed, times};
-use program::run::failing_folder;
+use program::run::differences_folder;
 
 #[test]
 fn iverilog_agrees() {
@@ -42,7 +42,7 @@ fn differences(cells: &Path, subjects: &[Subject], seed: u64) -> Vec<String> {
         let source = subject.source(&Netlist::of(&subject.design));
         let compared = subject.compare(cells, "design", &source);
         let difference = compared.unwrap_or_else(Some)?;
-        let paths = subject.save(&failing_folder(), seed, &source);
+        let paths = subject.save(&differences_folder(), seed, &source);
         Some(format!("{paths}: {difference}"))
     };
     let take = || subjects.get(next.fetch_add(1, Ordering::Relaxed));

@@ -6,6 +6,7 @@ pub mod check;
 pub mod design;
 pub mod edge;
 pub mod graph;
+pub mod input;
 pub mod layout;
 pub mod records;
 pub mod rules;

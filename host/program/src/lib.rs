@@ -4,6 +4,7 @@
 
 pub mod cases;
 pub mod column;
+pub mod command;
 pub mod compare;
 pub mod mutants;
 pub mod prng;

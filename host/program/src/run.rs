@@ -4,26 +4,33 @@ use std::io::{ErrorKind, Write};
 use std::path::{Path, PathBuf};
 use std::process::{Child, ChildStdin, Command, Stdio};
 
-/// The program: `JUDGE`, or target/bin/judge of the repository.
-pub fn judge_path() -> PathBuf {
+/// The program: `JUDGE`, or target/bin/judge of the repository. Or that there is none.
+pub fn find_judge() -> Result<PathBuf, String> {
     let path = match std::env::var_os("JUDGE") {
         Some(path) => PathBuf::from(path),
         None => repository().join("target/bin/judge"),
     };
-    assert!(
-        path.exists(),
-        "no program at {}: build it, or name one in JUDGE",
-        path.display()
-    );
-    path
+    match path.exists() {
+        true => Ok(path),
+        false => Err(format!(
+            "no program at {}: run 'rt check judge', or name one in JUDGE",
+            path.display()
+        )),
+    }
 }
 
-/// Where failing files go.
-pub fn failing_folder() -> PathBuf {
-    repository().join("target/host")
+/// The program, which has to be there.
+pub fn judge_path() -> PathBuf {
+    find_judge().unwrap_or_else(|missing| panic!("{missing}"))
 }
 
-fn repository() -> &'static Path {
+/// Where what differs is saved: not in target/, which the gate removes.
+pub fn differences_folder() -> PathBuf {
+    repository().join("differences")
+}
+
+/// The root of the repository.
+pub fn repository() -> &'static Path {
     let folder = Path::new(env!("CARGO_MANIFEST_DIR"));
     folder.ancestors().nth(2).expect("host/program is in it")
 }

@@ -4,7 +4,7 @@ use std::collections::BTreeMap;
 
 use program::compare::{differences, report, Difference};
 use program::random::{files, seed, times};
-use program::run::{failing_folder, run};
+use program::run::{differences_folder, run};
 
 /// The comparison ends after so many differences.
 const MOST_REPORTED: usize = 20;
@@ -19,7 +19,7 @@ fn program_and_model_agree() {
     assert!(
         differences.is_empty(),
         "{}",
-        report(&differences, &failing_folder(), seed)
+        report(&differences, &differences_folder(), seed)
     );
 }
 

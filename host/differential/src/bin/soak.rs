@@ -15,7 +15,7 @@ use differential::saved::save;
 use differential::{columns, records, Counts};
 use program::compare::{report, Difference};
 use program::random;
-use program::run::{failing_folder, run};
+use program::run::{differences_folder, find_judge, run};
 
 const BETWEEN_REPORTS: Duration = Duration::from_secs(10);
 
@@ -35,11 +35,31 @@ struct Progress {
 }
 
 fn main() -> ExitCode {
-    let arguments: Vec<String> = std::env::args().skip(1).collect();
-    let Some(minutes) = minutes(&arguments) else {
-        eprintln!("usage: soak MINUTES");
-        return ExitCode::from(2);
+    let words = std::env::args_os().skip(1);
+    let words: Vec<String> = words.map(|word| word.to_string_lossy().into()).collect();
+    if words == ["--help"] {
+        print!("{}", include_str!("../../../help/soak"));
+        return ExitCode::SUCCESS;
+    }
+    match minutes(&words).and_then(|minutes| find_judge().map(|_| minutes)) {
+        Ok(minutes) => soak(minutes),
+        Err(why) => {
+            eprintln!("soak: {why}");
+            ExitCode::from(2)
+        }
+    }
+}
+
+fn minutes(words: &[String]) -> Result<f64, String> {
+    let minutes = match words {
+        [minutes] => minutes.parse().ok(),
+        _ => None,
     };
+    let known = minutes.filter(|minutes| (0.0..=1e6).contains(minutes));
+    known.ok_or("one argument, a number of minutes from 0 to 1000000".to_string())
+}
+
+fn soak(minutes: f64) -> ExitCode {
     let soak = Soak {
         start: Instant::now(),
         length: Duration::from_secs_f64(60.0 * minutes),
@@ -57,16 +77,6 @@ fn main() -> ExitCode {
         println!("{failure}");
     }
     ExitCode::from(u8::from(!failures.is_empty()))
-}
-
-fn minutes(arguments: &[String]) -> Option<f64> {
-    match arguments {
-        [minutes] => {
-            let minutes: f64 = minutes.parse().ok()?;
-            (0.0..=1e6).contains(&minutes).then_some(minutes)
-        }
-        _ => None,
-    }
 }
 
 impl Soak {
@@ -94,7 +104,7 @@ impl Soak {
 
     /// All files and records of a seed, as far as there is time.
     fn seed(&self, seed: u64) -> Result<(), String> {
-        let saved = |difference: Box<_>| save(&difference, &failing_folder());
+        let saved = |difference: Box<_>| save(&difference, &differences_folder());
         for (number, file) in random::files(seed, 1).into_iter().enumerate() {
             if self.is_over() {
                 return Ok(());
@@ -168,5 +178,5 @@ fn judge(subject: &columns::Subject, seed: u64) -> Result<(), String> {
         program,
         model,
     };
-    Err(report(&[difference], &failing_folder(), seed))
+    Err(report(&[difference], &differences_folder(), seed))
 }

@@ -1,0 +1,358 @@
+//! The command `judge`: its verdicts as exit statuses, its errors, and that it
+//! never runs a program of other sources. All but one test run it in a small copy
+//! of the repository, with an `rt` of the test's own that hands out a program.
+
+use std::fs::{self, File};
+use std::os::unix::fs::PermissionsExt;
+use std::os::unix::net::UnixListener;
+use std::path::{Path, PathBuf};
+use std::process::{Command, Output, Stdio};
+
+use program::cases::worked_file;
+use program::column::Column;
+use program::command::{assert_fails, assert_writes};
+use program::run::{judge_path, repository};
+
+/// `rt check judge` that counts its runs and proves two crates.
+const RT: &str = "#!/bin/sh
+[ \"$*\" = 'check judge' ] || exit 9
+echo run >> runs
+echo 'rt: below proved (3 s)'
+mkdir -p target/bin && cp ../program target/bin/judge
+echo 'rt: judge proved (4 s)'
+";
+
+const PROGRESS: &str = "\
+judge: proving the program and building it for these sources; from nothing that takes some two minutes
+judge: proved 1 of 2: below (3 s)
+judge: proved 2 of 2: judge (4 s)
+";
+
+/// A repository of its own beside a program and an `rt`.
+struct Copy {
+    folder: PathBuf,
+}
+
+impl Copy {
+    fn new(name: &str) -> Copy {
+        let folder = Path::new(env!("CARGO_TARGET_TMPDIR")).join(format!("judge {name}"));
+        let _ = fs::remove_dir_all(&folder);
+        let copy = Copy { folder };
+        copy.write("bin/rt", RT);
+        copy.write(
+            "root/crates.txt",
+            "# layers\nbelow:\nbeside: below\njudge: below io # two\n",
+        );
+        copy.write("root/crates/below/specs/Low.antt", "one");
+        copy.write("root/crates/below/must-fail/wrong.edit", "one");
+        copy.write("root/crates/beside/src/lib.rt", "one");
+        copy.write("root/crates/judge/src/main.rt", "one");
+        fs::copy(repository().join("judge"), copy.root().join("judge")).expect("the script");
+        fs::copy(judge_path(), copy.folder.join("program")).expect("the program");
+        copy
+    }
+
+    fn root(&self) -> PathBuf {
+        self.folder.join("root")
+    }
+
+    /// Writes a text that may be run.
+    fn write(&self, name: &str, text: &str) {
+        let path = self.folder.join(name);
+        fs::create_dir_all(path.parent().expect("a folder")).expect("a folder");
+        fs::write(&path, text).expect("a file");
+        fs::set_permissions(&path, PermissionsExt::from_mode(0o755)).expect("a mode");
+    }
+
+    /// The command in the folder of the copy, `rt` being first on the PATH.
+    fn command(&self, words: &[&str]) -> Command {
+        let path = std::env::var("PATH").expect("a PATH");
+        let mut command = Command::new("bash");
+        command.arg(self.root().join("judge")).args(words);
+        command.current_dir(&self.folder);
+        let path = format!("{}:{path}", self.folder.join("bin").display());
+        command.env("PATH", path).stdin(Stdio::null());
+        command
+    }
+
+    fn judge(&self, words: &[&str]) -> Output {
+        self.command(words).output().expect("the command")
+    }
+
+    /// How often `rt` was run.
+    fn runs(&self) -> usize {
+        let runs = fs::read_to_string(self.root().join("runs"));
+        runs.map_or(0, |text| text.lines().count())
+    }
+
+    /// A copy with the program built.
+    fn built(name: &str) -> Copy {
+        let copy = Copy::new(name);
+        let output = copy.judge(&[]);
+        assert_eq!(output.status.code(), Some(1));
+        copy
+    }
+}
+
+/// In the repository itself, where the proof is real.
+#[test]
+fn judges_in_the_repository() {
+    let path = Path::new(env!("CARGO_TARGET_TMPDIR")).join("whole.bin");
+    fs::write(&path, worked_file(1)).expect("a file");
+    let run = || {
+        let mut command = Command::new(repository().join("judge"));
+        command.arg(&path).output().expect("the command")
+    };
+    let first = run();
+    let said = String::from_utf8_lossy(&first.stderr);
+    assert_eq!(
+        (first.status.code(), &first.stdout[..]),
+        (Some(0), &b"accepted 1 0\n"[..]),
+        "{said}"
+    );
+    assert_writes(&run(), 0, "accepted 1 0\n");
+}
+
+#[test]
+fn statuses_are_verdicts() {
+    let copy = Copy::built("statuses");
+    fs::write(copy.folder.join("z"), worked_file(1)).expect("a file");
+    fs::write(copy.folder.join("looped"), worked_file(6)).expect("a file");
+    assert_writes(&copy.judge(&["z"]), 0, "accepted 1 0\n");
+    assert_writes(&copy.judge(&["looped"]), 1, "refused 9 4\n");
+    for words in [&[][..], &["-"]] {
+        assert_writes(&copy.judge(words), 1, "refused 1 0\n");
+        let file = File::open(copy.folder.join("z")).expect("the file");
+        let output = copy.command(words).stdin(file).output();
+        assert_writes(&output.expect("the command"), 0, "accepted 1 0\n");
+    }
+}
+
+/// Nothing is cut off the longest file, and endless input is judged.
+#[test]
+fn long_input() {
+    let copy = Copy::built("long");
+    let mut file = Column::zeros(64, 64).bytes();
+    fs::write(copy.folder.join("longest"), &file).expect("a file");
+    file.push(0);
+    fs::write(copy.folder.join("longer"), &file).expect("a file");
+    assert_writes(&copy.judge(&["longest"]), 0, "accepted 64 64\n");
+    assert_writes(&copy.judge(&["longer"]), 1, "refused 8 8136\n");
+    assert_writes(&copy.judge(&["/dev/zero"]), 1, "refused 2 0\n");
+}
+
+/// What is wrong with the words or the input is told before anything is proved,
+/// but where only reading tells it.
+#[test]
+fn no_verdict_on_what_cannot_be_read() {
+    let copy = Copy::new("unreadable");
+    let _socket = UnixListener::bind(copy.folder.join("socket")).expect("a socket");
+    let mut closed = Command::new("sh");
+    closed
+        .args(["-c", "exec bash root/judge <&-"])
+        .current_dir(&copy.folder);
+    let folder = File::open("/").expect("a folder");
+    assert_fails(&copy.judge(&["z", "z"]), "judge: more than one argument");
+    assert_fails(&copy.judge(&["-x"]), "judge: no option -x;");
+    assert_fails(&copy.judge(&["--all"]), "judge: no option --all;");
+    assert_fails(&copy.judge(&["none"]), "judge: none: no such file\n");
+    assert_fails(&copy.judge(&[""]), "judge: : no such file\n");
+    assert_fails(&copy.judge(&["bin"]), "judge: bin: is a directory\n");
+    assert_fails(&copy.judge(&["socket"]), "judge: socket: can't be opened\n");
+    let output = copy
+        .command(&[])
+        .stdin(folder)
+        .output()
+        .expect("the command");
+    assert_fails(&output, "judge: standard input: is a directory\n");
+    assert_fails(
+        &closed.output().expect("sh"),
+        "judge: standard input: is closed\n",
+    );
+    assert_eq!(copy.runs(), 0);
+    let copy = Copy::built("not read");
+    let memory = "/proc/self/mem";
+    assert_fails(
+        &copy.judge(&[memory]),
+        "judge: /proc/self/mem: can't be read\n",
+    );
+    let written = File::create(copy.folder.join("written")).expect("a file");
+    let output = copy
+        .command(&[])
+        .stdin(written)
+        .output()
+        .expect("the command");
+    assert_fails(&output, "judge: standard input: can't be read\n");
+}
+
+#[test]
+fn help() {
+    let copy = Copy::new("help");
+    let output = copy.judge(&["--help"]);
+    let text = String::from_utf8_lossy(&output.stdout).into_owned();
+    assert!(text.starts_with("usage: judge [FILE]\n"), "{text}");
+    assert_writes(&output, 0, &text);
+    assert_eq!(copy.runs(), 0);
+}
+
+/// A verdict that can't be written is none.
+#[test]
+fn full_output() {
+    let copy = Copy::built("full");
+    let full = File::create("/dev/full").expect("the device");
+    let output = copy
+        .command(&[])
+        .stdout(full)
+        .output()
+        .expect("the command");
+    assert_fails(&output, "judge: the verdict can't be written\n");
+}
+
+#[test]
+fn says_how_far_it_is() {
+    let output = Copy::new("progress").judge(&[]);
+    assert_eq!(String::from_utf8_lossy(&output.stderr), PROGRESS);
+    assert_eq!(String::from_utf8_lossy(&output.stdout), "refused 1 0\n");
+}
+
+/// It is built again exactly when something changed that it is built from.
+#[test]
+fn built_again_when_sources_change() {
+    let copy = Copy::built("changes");
+    let low = "root/crates/below/specs/Low.antt";
+    let one_less = "below:\nbeside: below\njudge: below\n";
+    let one_more = "below:\nbeside: below\njudge: beside\n";
+    for (name, text, runs) in [
+        (low, "one", 1),
+        ("root/crates/beside/src/lib.rt", "two", 1),
+        ("root/crates/below/must-fail/wrong.edit", "two", 1),
+        (low, "two", 2),
+        ("root/crates/below/proofs/New.antt", "one", 3),
+        ("root/crates/judge/src/main.rt", "two", 4),
+        ("root/crates.txt", one_less, 5),
+        ("root/crates.txt", one_more, 6),
+        ("root/crates/beside/src/lib.rt", "three", 7),
+        (low, "one", 8),
+    ] {
+        copy.write(name, text);
+        for _ in 0..2 {
+            assert_eq!(copy.judge(&[]).status.code(), Some(1));
+        }
+        assert_eq!(copy.runs(), runs, "{name}");
+    }
+    fs::remove_file(copy.folder.join("root/crates/below/proofs/New.antt")).expect("the file");
+    copy.judge(&[]);
+    assert_eq!(copy.runs(), 9);
+}
+
+/// The folders of the PATH that have no `rt`.
+fn path_without_rt() -> String {
+    let path = std::env::var("PATH").expect("a PATH");
+    let folders = path
+        .split(':')
+        .filter(|x| !Path::new(x).join("rt").exists());
+    folders.collect::<Vec<_>>().join(":")
+}
+
+/// Without `rt` it judges with the program of these sources, and with no other.
+#[test]
+fn without_rt() {
+    let copy = Copy::built("without");
+    let run = || {
+        let mut command = copy.command(&[]);
+        let output = command.env("PATH", path_without_rt()).output();
+        output.expect("the command")
+    };
+    assert_writes(&run(), 1, "refused 1 0\n");
+    copy.write("root/crates/judge/src/main.rt", "two");
+    let why = "judge: the program is not built for these sources, and rt, which";
+    assert_fails(&run(), why);
+    copy.write("root/crates/judge/src/main.rt", "one");
+    assert_writes(&run(), 1, "refused 1 0\n");
+}
+
+/// Where the proof fails there is no verdict, from the old program neither.
+#[test]
+fn failing_proof() {
+    let copy = Copy::built("failing");
+    let rt = "#!/bin/sh\necho run >> runs\necho 'rt: below NOT PROVED (exit 1, 2 s)'\nexit 1\n";
+    copy.write("bin/rt", rt);
+    copy.write("root/crates/below/src/lib.rt", "two");
+    for runs in [2, 3] {
+        let output = copy.judge(&[]);
+        let said = String::from_utf8_lossy(&output.stderr);
+        let lines: Vec<&str> = said.lines().collect();
+        assert_eq!(
+            (output.status.code(), &output.stdout[..]),
+            (Some(2), &b""[..]),
+            "{said}"
+        );
+        assert_eq!(lines[1], "judge: below NOT PROVED (exit 1, 2 s)");
+        assert!(lines[2].starts_with("judge: rt check judge failed, so there is no program; "));
+        assert_eq!((lines.len(), copy.runs()), (3, runs));
+    }
+}
+
+/// What was proved is not what stands there now.
+#[test]
+fn sources_that_change_meanwhile() {
+    let copy = Copy::new("meanwhile");
+    copy.write(
+        "bin/rt",
+        &format!("{RT}echo two >> crates/below/specs/Low.antt\n"),
+    );
+    let output = copy.judge(&[]);
+    let said = String::from_utf8_lossy(&output.stderr);
+    assert_eq!(
+        (output.status.code(), &output.stdout[..]),
+        (Some(2), &b""[..]),
+        "{said}"
+    );
+    assert!(said.ends_with("\njudge: the sources changed while they were proved: run it again\n"));
+}
+
+/// A program that was removed is built anew, though `rt` holds it for proved.
+#[test]
+fn removed_program() {
+    let copy = Copy::new("removed");
+    let stamped = RT.replace("mkdir", "[ -e target/stamp/judge ] || mkdir");
+    copy.write("bin/rt", &stamped);
+    copy.write("root/target/stamp/judge", "");
+    let output = copy.judge(&[]);
+    assert_eq!(String::from_utf8_lossy(&output.stdout), "refused 1 0\n");
+}
+
+#[test]
+fn programs_without_a_verdict() {
+    let copy = Copy::new("killed");
+    for (program, status) in [
+        ("kill -KILL $$", "137"),
+        ("exit 3", "3"),
+        ("cat > /dev/null", "0"),
+        ("cat > /dev/null; echo accept 1 0", "0"),
+    ] {
+        copy.write("program", &format!("#!/bin/sh\n{program}\n"));
+        copy.write("root/crates/judge/src/main.rt", program);
+        copy.judge(&[]);
+        let why = format!("judge: the program gave no verdict; its status is {status}\n");
+        assert_fails(&copy.judge(&[]), &why);
+    }
+}
+
+/// Of two runs one builds, and the other waits for it.
+#[test]
+fn two_at_once() {
+    let copy = Copy::new("twice");
+    copy.write("bin/rt", &RT.replace("mkdir", "sleep 0.5; mkdir"));
+    let start = || {
+        let mut command = copy.command(&[]);
+        command.stdout(Stdio::piped()).stderr(Stdio::piped());
+        command.spawn().expect("the command")
+    };
+    for child in [start(), start()] {
+        let output = child.wait_with_output().expect("the command");
+        assert_eq!(String::from_utf8_lossy(&output.stdout), "refused 1 0\n");
+        assert_eq!(output.status.code(), Some(1));
+    }
+    assert_eq!(copy.runs(), 1);
+}
