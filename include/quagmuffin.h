@@ -4,8 +4,16 @@
  * The library is target/staticlib/libquagmuffin.a, written by `rt staticlib quagmuffin`. It allocates nothing and keeps nothing between
  * calls, so calls on different buffers may run at the same time.
  *
- * A buffer is a pointer and then its length in elements. The pointer is never null, also where the length is 0; a buffer of words is
- * aligned as uint64_t; a buffer that is not const overlaps no other of the call. For a file of n slices and m outside inputs:
+ * A buffer is a pointer and then its length in elements. What the host owes, since no call can check it and the proofs assume it:
+ *
+ *   - no pointer is null, also where the length is 0
+ *   - a buffer has as many elements as its length says, and no other thread touches them during the call, but to read const ones
+ *   - a buffer of words is aligned as uint64_t
+ *   - a buffer that is not const overlaps no other of the call
+ *   - 52 KB of stack are left
+ *
+ * Nothing else is asked: lengths, bytes, words and numbers may be any, and are judged. For a file of n slices and m outside inputs the
+ * buffers are:
  *
  *   file       any bytes, of any length
  *   contents   4n words, the contents of table 4s + letter (letters A to D count 0 to 3)
