@@ -60,22 +60,23 @@ fn scripts_run_their_command() {
     assert_fails(&run(&host.join("run"), &[]), "run: no command '';");
 }
 
-/// Where nothing is built they say what to run.
+/// Where nothing is built they help, and say what to run.
 #[test]
 fn scripts_without_the_library() {
     let text = fs::read_to_string(repository().join("host/run")).expect("the script");
-    let root = folder("unbuilt", &[("host/run", &text)]);
     for name in ["bench", "replay", "soak"] {
-        let output = Command::new("bash")
-            .arg(root.join("host/run"))
-            .args([name, "x"])
-            .output();
+        let help = format!("host/help/{name}");
+        let root = folder("unbuilt", &[("host/run", &text), (&help, "helps\n")]);
+        let run = |word| {
+            let mut command = Command::new("bash");
+            command.arg(root.join("host/run")).args([name, word]);
+            command.output().expect("the script")
+        };
+        assert_writes(&run("--help"), 0, "helps\n");
         let archive = root.join("target/staticlib/libquagmuffin.a");
-        let line = format!(
-            "{name}: no archive at {}: run 'rt staticlib quagmuffin'\n",
-            archive.display()
-        );
-        assert_fails(&output.expect("the script"), &line);
+        let archive = archive.display();
+        let line = format!("{name}: no archive at {archive}: run 'rt staticlib quagmuffin'\n");
+        assert_fails(&run("x"), &line);
     }
 }
 
