@@ -29,15 +29,15 @@ judge: proved 2 of 2: judge (4 s)
 ";
 
 /// A repository of its own beside a program and an `rt`.
-struct Copy {
+struct Replica {
     folder: PathBuf,
 }
 
-impl Copy {
-    fn new(name: &str) -> Copy {
+impl Replica {
+    fn new(name: &str) -> Replica {
         let folder = Path::new(env!("CARGO_TARGET_TMPDIR")).join(format!("judge {name}"));
         let _ = fs::remove_dir_all(&folder);
-        let copy = Copy { folder };
+        let copy = Replica { folder };
         copy.write("bin/rt", RT);
         copy.write(
             "root/crates.txt",
@@ -86,8 +86,8 @@ impl Copy {
     }
 
     /// A copy with the program built.
-    fn built(name: &str) -> Copy {
-        let copy = Copy::new(name);
+    fn built(name: &str) -> Replica {
+        let copy = Replica::new(name);
         let output = copy.judge(&[]);
         assert_eq!(output.status.code(), Some(1));
         copy
@@ -115,7 +115,7 @@ fn judges_in_the_repository() {
 
 #[test]
 fn statuses_are_verdicts() {
-    let copy = Copy::built("statuses");
+    let copy = Replica::built("statuses");
     fs::write(copy.folder.join("z"), worked_file(1)).expect("a file");
     fs::write(copy.folder.join("looped"), worked_file(6)).expect("a file");
     assert_writes(&copy.judge(&["z"]), 0, "accepted 1 0\n");
@@ -131,7 +131,7 @@ fn statuses_are_verdicts() {
 /// Nothing is cut off the longest file, and endless input is judged.
 #[test]
 fn long_input() {
-    let copy = Copy::built("long");
+    let copy = Replica::built("long");
     let mut file = Column::zeros(64, 64).bytes();
     fs::write(copy.folder.join("longest"), &file).expect("a file");
     file.push(0);
@@ -141,53 +141,48 @@ fn long_input() {
     assert_writes(&copy.judge(&["/dev/zero"]), 1, "refused 2 0\n");
 }
 
-/// What is wrong with the words or the input is told before anything is proved,
-/// but where only reading tells it.
+/// What is wrong with the words or the input is told before anything is proved.
+#[test]
+fn no_verdict_on_wrong_words() {
+    let copy = Replica::new("words");
+    let _socket = UnixListener::bind(copy.folder.join("socket")).expect("a socket");
+    for (words, line) in [
+        (&["z", "z"][..], "more than one argument; judge --help says"),
+        (&["-x"], "no option -x; judge --help says"),
+        (&["--all"], "no option --all; judge --help says"),
+        (&["none"], "none: no such file\n"),
+        (&[""], ": no such file\n"),
+        (&["bin"], "bin: is a directory\n"),
+        (&["socket"], "socket: can't be opened\n"),
+    ] {
+        assert_fails(&copy.judge(words), &format!("judge: {line}"));
+    }
+    let folder = File::open("/").expect("a folder");
+    let output = copy.command(&[]).stdin(folder).output();
+    let why = "judge: standard input: is a directory\n";
+    assert_fails(&output.expect("the command"), why);
+    let mut closed = Command::new("sh");
+    closed.args(["-c", "exec bash root/judge <&-"]);
+    let output = closed.current_dir(&copy.folder).output();
+    assert_fails(&output.expect("sh"), "judge: standard input: is closed\n");
+    assert_eq!(copy.runs(), 0);
+}
+
+/// What can be opened and not read is no end of the input.
 #[test]
 fn no_verdict_on_what_cannot_be_read() {
-    let copy = Copy::new("unreadable");
-    let _socket = UnixListener::bind(copy.folder.join("socket")).expect("a socket");
-    let mut closed = Command::new("sh");
-    closed
-        .args(["-c", "exec bash root/judge <&-"])
-        .current_dir(&copy.folder);
-    let folder = File::open("/").expect("a folder");
-    assert_fails(&copy.judge(&["z", "z"]), "judge: more than one argument");
-    assert_fails(&copy.judge(&["-x"]), "judge: no option -x;");
-    assert_fails(&copy.judge(&["--all"]), "judge: no option --all;");
-    assert_fails(&copy.judge(&["none"]), "judge: none: no such file\n");
-    assert_fails(&copy.judge(&[""]), "judge: : no such file\n");
-    assert_fails(&copy.judge(&["bin"]), "judge: bin: is a directory\n");
-    assert_fails(&copy.judge(&["socket"]), "judge: socket: can't be opened\n");
-    let output = copy
-        .command(&[])
-        .stdin(folder)
-        .output()
-        .expect("the command");
-    assert_fails(&output, "judge: standard input: is a directory\n");
-    assert_fails(
-        &closed.output().expect("sh"),
-        "judge: standard input: is closed\n",
-    );
-    assert_eq!(copy.runs(), 0);
-    let copy = Copy::built("not read");
-    let memory = "/proc/self/mem";
-    assert_fails(
-        &copy.judge(&[memory]),
-        "judge: /proc/self/mem: can't be read\n",
-    );
+    let copy = Replica::built("unreadable");
+    let output = copy.judge(&["/proc/self/mem"]);
+    assert_fails(&output, "judge: /proc/self/mem: can't be read\n");
     let written = File::create(copy.folder.join("written")).expect("a file");
-    let output = copy
-        .command(&[])
-        .stdin(written)
-        .output()
-        .expect("the command");
-    assert_fails(&output, "judge: standard input: can't be read\n");
+    let output = copy.command(&[]).stdin(written).output();
+    let why = "judge: standard input: can't be read\n";
+    assert_fails(&output.expect("the command"), why);
 }
 
 #[test]
 fn help() {
-    let copy = Copy::new("help");
+    let copy = Replica::new("help");
     let output = copy.judge(&["--help"]);
     let text = String::from_utf8_lossy(&output.stdout).into_owned();
     assert!(text.starts_with("usage: judge [FILE]\n"), "{text}");
@@ -198,7 +193,7 @@ fn help() {
 /// A verdict that can't be written is none.
 #[test]
 fn full_output() {
-    let copy = Copy::built("full");
+    let copy = Replica::built("full");
     let full = File::create("/dev/full").expect("the device");
     let output = copy
         .command(&[])
@@ -210,7 +205,7 @@ fn full_output() {
 
 #[test]
 fn says_how_far_it_is() {
-    let output = Copy::new("progress").judge(&[]);
+    let output = Replica::new("progress").judge(&[]);
     assert_eq!(String::from_utf8_lossy(&output.stderr), PROGRESS);
     assert_eq!(String::from_utf8_lossy(&output.stdout), "refused 1 0\n");
 }
@@ -218,7 +213,7 @@ fn says_how_far_it_is() {
 /// It is built again exactly when something changed that it is built from.
 #[test]
 fn built_again_when_sources_change() {
-    let copy = Copy::built("changes");
+    let copy = Replica::built("changes");
     let low = "root/crates/below/specs/Low.antt";
     let one_less = "below:\nbeside: below\njudge: below\n";
     let one_more = "below:\nbeside: below\njudge: beside\n";
@@ -257,7 +252,7 @@ fn path_without_rt() -> String {
 /// Without `rt` it judges with the program of these sources, and with no other.
 #[test]
 fn without_rt() {
-    let copy = Copy::built("without");
+    let copy = Replica::built("without");
     let run = || {
         let mut command = copy.command(&[]);
         let output = command.env("PATH", path_without_rt()).output();
@@ -274,7 +269,7 @@ fn without_rt() {
 /// Where the proof fails there is no verdict, from the old program neither.
 #[test]
 fn failing_proof() {
-    let copy = Copy::built("failing");
+    let copy = Replica::built("failing");
     let rt = "#!/bin/sh\necho run >> runs\necho 'rt: below NOT PROVED (exit 1, 2 s)'\nexit 1\n";
     copy.write("bin/rt", rt);
     copy.write("root/crates/below/src/lib.rt", "two");
@@ -296,7 +291,7 @@ fn failing_proof() {
 /// What was proved is not what stands there now.
 #[test]
 fn sources_that_change_meanwhile() {
-    let copy = Copy::new("meanwhile");
+    let copy = Replica::new("meanwhile");
     copy.write(
         "bin/rt",
         &format!("{RT}echo two >> crates/below/specs/Low.antt\n"),
@@ -314,7 +309,7 @@ fn sources_that_change_meanwhile() {
 /// A program that was removed is built anew, though `rt` holds it for proved.
 #[test]
 fn removed_program() {
-    let copy = Copy::new("removed");
+    let copy = Replica::new("removed");
     let stamped = RT.replace("mkdir", "[ -e target/stamp/judge ] || mkdir");
     copy.write("bin/rt", &stamped);
     copy.write("root/target/stamp/judge", "");
@@ -324,7 +319,7 @@ fn removed_program() {
 
 #[test]
 fn programs_without_a_verdict() {
-    let copy = Copy::new("killed");
+    let copy = Replica::new("killed");
     for (program, status) in [
         ("kill -KILL $$", "137"),
         ("exit 3", "3"),
@@ -342,7 +337,7 @@ fn programs_without_a_verdict() {
 /// Of two runs one builds, and the other waits for it.
 #[test]
 fn two_at_once() {
-    let copy = Copy::new("twice");
+    let copy = Replica::new("twice");
     copy.write("bin/rt", &RT.replace("mkdir", "sleep 0.5; mkdir"));
     let start = || {
         let mut command = copy.command(&[]);
