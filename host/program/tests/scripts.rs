@@ -82,45 +82,59 @@ fn scripts_without_the_library() {
 
 /// The gate in a folder of its own, where `rt ci` writes a line and every test passes.
 /// The models of the simulator are as named; `iverilog` is there.
-fn gate(name: &str, rt_says: &str, models: &str, no_install: bool) -> (Output, PathBuf) {
+fn gate(name: &str, rt_says: &str, models: &str) -> (Command, PathBuf) {
     let script = fs::read_to_string(repository().join(".ci/run")).expect("the script");
     let rt = format!("#!/bin/sh\n[ $1 != ci ] || echo '{rt_says}'\n");
-    let cargo = "#!/bin/sh\necho \"models: $CELLS\"\necho 'test result: ok. 3 passed; 0 failed; 0 ignored'\n";
+    let result = "test result: ok. 3 passed; 0 failed; 0 ignored";
+    let cargo = format!("#!/bin/sh\necho \"models: $CELLS\"\necho '{result}'\n");
     let texts = [
         (".ci/run", &script[..]),
         ("models", ""),
         ("bin/rt", &rt),
-        ("bin/cargo", cargo),
+        ("bin/cargo", &cargo),
         ("bin/apt-get", "#!/bin/sh\necho \"$@\" >> words\n"),
         ("bin/iverilog", "#!/bin/sh\n"),
     ];
     let root = folder(name, &texts);
     let path = std::env::var("PATH").expect("a PATH");
+    let path = format!("{}:{path}", root.join("bin").display());
     let mut command = Command::new("bash");
-    command.arg(root.join(".ci/run"));
-    command.env("PATH", format!("{}:{path}", root.join("bin").display()));
-    command
-        .env("CELLS", root.join(models))
-        .env_remove("NO_INSTALL");
-    if no_install {
-        command.env("NO_INSTALL", "1");
-    }
-    (command.output().expect("the gate"), root)
+    command.arg(root.join(".ci/run")).env("PATH", path);
+    command.env("CELLS", root.join(models));
+    command.env_remove("NO_INSTALL");
+    (command, root)
 }
 
-fn lines(output: &Output) -> Vec<String> {
+/// What the gate wrote, by lines, and its status.
+fn lines(command: &mut Command) -> (Vec<String>, Option<i32>) {
+    let output = command.output().expect("the gate");
     let text = String::from_utf8_lossy(&output.stdout);
-    text.lines().map(str::to_string).collect()
+    let lines = text.lines().map(str::to_string).collect();
+    (lines, output.status.code())
+}
+
+#[test]
+fn gate_helps() {
+    let run = |word| {
+        let (mut gate, _) = gate("gate helps", "0 passed, 9 failed", "models");
+        gate.arg(word).output().expect("the gate")
+    };
+    let output = run("--help");
+    let text = String::from_utf8_lossy(&output.stdout).into_owned();
+    assert!(text.starts_with("usage: .ci/run\n"), "{text}");
+    assert_writes(&output, 0, &text);
+    assert_fails(&run("now"), "gate: it takes no argument;");
 }
 
 #[test]
 fn gate_adds_up() {
-    let (output, root) = gate("gate", "5 passed, 0 failed", "models", false);
+    let (mut gate, root) = gate("gate", "5 passed, 0 failed", "models");
+    let (lines, status) = lines(&mut gate);
     let models = format!("models: {}", root.join("models").display());
     let result = "test result: ok. 3 passed; 0 failed; 0 ignored";
     let expected = ["5 passed, 0 failed", &models, result, "8 passed, 0 failed"];
-    assert_eq!(lines(&output), expected);
-    assert_eq!(output.status.code(), Some(0));
+    assert_eq!(lines, expected);
+    assert_eq!(status, Some(0));
     assert!(!root.join("words").exists());
 }
 
@@ -130,38 +144,32 @@ fn gate_fails() {
         ("4 passed, 1 failed", "7 passed, 1 failed"),
         ("nothing", "3 passed, 1 failed"),
     ] {
-        let (output, _) = gate("gate fails", says, "models", false);
-        assert_eq!(lines(&output).last().map(String::as_str), Some(sum));
-        assert_eq!(output.status.code(), Some(1));
+        let (lines, status) = lines(&mut gate("gate fails", says, "models").0);
+        assert_eq!(lines.last().map(String::as_str), Some(sum));
+        assert_eq!(status, Some(1));
     }
 }
 
 /// What is installed is said before.
 #[test]
 fn gate_says_what_it_installs() {
-    let (output, root) = gate("gate installs", "5 passed, 0 failed", "none", false);
-    let lines = lines(&output);
-    let start = "gate: installing the packages iverilog and yosys with apt-get, to ";
-    assert!(lines[1].starts_with(start), "{lines:?}");
-    assert!(
-        lines[2].starts_with("gate: no iverilog, or no models"),
-        "{lines:?}"
-    );
+    let (mut gate, root) = gate("gate installs", "5 passed, 0 failed", "none");
+    let (lines, _) = lines(&mut gate);
+    let install = "gate: installing the packages iverilog and yosys with apt-get, to ";
+    let missing = "gate: no iverilog, or no models of the primitives at ";
+    assert!(lines[1].starts_with(install), "{lines:?}");
+    assert!(lines[2].starts_with(missing), "{lines:?}");
     let words = fs::read_to_string(root.join("words")).expect("the words of apt-get");
-    assert!(
-        words.ends_with(" install -y --no-install-recommends iverilog yosys\n"),
-        "{words}"
-    );
+    let packages = " install -y --no-install-recommends iverilog yosys\n";
+    assert!(words.ends_with(packages), "{words}");
 }
 
 #[test]
 fn gate_installs_nothing_where_told() {
-    let (output, root) = gate("gate leaves", "5 passed, 0 failed", "none", true);
-    let lines = lines(&output);
-    assert!(
-        lines[1].starts_with("gate: no iverilog, or no models"),
-        "{lines:?}"
-    );
-    assert_eq!(lines.last().map(String::as_str), Some("8 passed, 0 failed"));
+    let (mut gate, root) = gate("gate leaves", "5 passed, 0 failed", "none");
+    let (lines, status) = lines(gate.env("NO_INSTALL", "1"));
+    let missing = "gate: no iverilog, or no models of the primitives at ";
+    assert!(lines[1].starts_with(missing), "{lines:?}");
+    assert_eq!(status, Some(0));
     assert!(!root.join("words").exists());
 }
