@@ -21,9 +21,10 @@ use Rattle.sources.specs.Sources.{pinSource, own}
 use Rattle.series7.specs.Edge.{mainSource, secondSource, flopSource, nextBit, nextFlops, writeAddress, written, nextWord}
 use Rattle.series7.proofs.GateLaws.{either, pin-fits, wide-small}
 use Rattle.edge.specs.Numbers.{edgeLength, resetCode, addressCode, kindOf, writeCode, edgeNumber, edgeNumbers}
-use Rattle.edge.proofs.Table.{number-at, address-at, flop-at, kind-at, data-at}
+use Rattle.edge.proofs.Table.{number-at}
 use Rattle.moves.specs.Moves.{edgeWe, addressBy, bitBy, flopsBy, writtenBy, wordBy}
 use Rattle.moves.proofs.Byte.{number-on}
+use Rattle.moves.proofs.Places.{address-at, flop-at, kind-at, data-at}
 
 -- what holds of each of a list, and of what stands past them, holds of whichever is chosen
 infixr 5 _and_

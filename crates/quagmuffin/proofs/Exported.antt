@@ -51,6 +51,10 @@ verdict-back (Accepted n m) s =
 pub judge-told : (file : List ℕ) {i : ℕ} → Packed packVerdict (Judged file) i → Judged file (unpackVerdict i)
 judge-told file p = subst⁻¹ (Judged file) (ap unpackVerdict (p .same) ∙ verdict-back (p .answer) (judged-small file (p .promised))) (p .promised)
 
+-- 0 in the low 8 bits means accepted
+pub zero-accepted : (file : List ℕ) {i : ℕ} → Packed packVerdict (Judged file) i → i % 256 ≡ 0 → Judged file (Accepted (i / 256 % 65536) (i / 16777216))
+zero-accepted file p e = rw e at (judge-told file p)
+
 module _ {file : List ℕ} {own : ℕ → ℕ → ℕ} {Kept : Type 0} {Did : ℕ → ℕ → Type 0} (most : (n m : ℕ) → own n m ≤ 11) where
   pub call-told : {i : ℕ} → Answered (Called file own Kept Did) i → Called file own Kept Did (unpackAnswer i)
   call-told p = subst⁻¹ (Called file own Kept Did) (ap unpackAnswer (p .same) ∙ answer-back (p .answer) (called-small most (p .promised))) (p .promised)
