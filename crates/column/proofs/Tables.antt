@@ -1,13 +1,13 @@
 -- The settled tables of an accepted file: "there is exactly one such table", for any state and inputs. Assumes nothing.
-use mathlib.Core.Path.{_≡_}
 use mathlib.Core.List.{List}
 use Prim.Native.Nat.{ℕ, _<_}
 use lib.ListN.{getD}
 use Rattle.netlist.specs.Graph.{WellFormed, Ordered}
+use Rattle.netlist.specs.Settle.{Settled}
 use Rattle.netlist.proofs.Loops.{some-order}
 use Rattle.netlist.proofs.Net.{some-settled}
 use Rattle.netlist.proofs.Bits.{settled-bits}
-use Rattle.column.specs.Clock.{State, envOf, SettledFor}
+use Rattle.column.specs.Clock.{State, envOf, SettledFor, OnlySettled}
 use Rattle.column.specs.File.{sliceCount, signalCount, gateAt}
 use Rattle.column.specs.Judge.{readsAt, Judged}
 use Rattle.column.specs.declared.Verdict.the-variants.{Accepted}
@@ -30,14 +30,17 @@ module _ (file : List ℕ) {n m : ℕ} (j : Judged file (Accepted n m)) where
   pub settled-once : SettlesOnce file
   settled-once = settles-once file (rw (← records-sound .count) at (accepted-free file j))
 
-  settled-some : (st : State) (inputs : List ℕ) → (t : List ℕ) × SettledFor file st inputs t
-  settled-some st inputs = rw (records-sound .count) (some-settled (gateAt file) (signalCount n) closed (accepted-free file j) (envOf st inputs))
+  -- a table that is settled is the only one
+  pub settled-only : (st : State) (inputs t : List ℕ) → Settled (gateAt file) (signalCount n) (envOf st inputs) t → OnlySettled file st inputs t
+  settled-only st inputs t s =
+      let here : SettledFor file st inputs t = rw (records-sound .count) s in
+      (here, λ fresh after. settled-once st inputs t fresh here after)
 
   -- "there is exactly one such table"
-  pub one-table : (st : State) (inputs : List ℕ) → (t : List ℕ) × SettledFor file st inputs t × ((t′ : List ℕ) → SettledFor file st inputs t′ → t′ ≡ t)
+  pub one-table : (st : State) (inputs : List ℕ) → (t : List ℕ) × OnlySettled file st inputs t
   one-table st inputs =
-      let w = settled-some st inputs in
-      (w .0, w .1, λ t′ s. settled-once st inputs t′ (w .0) s (w .1))
+      let w = some-settled (gateAt file) (signalCount n) closed (accepted-free file j) (envOf st inputs) in
+      (w .0, settled-only st inputs (w .0) (w .1))
 
   -- and its bytes are 0 and 1
   pub table-bits : (st : State) (inputs t : List ℕ) → SettledFor file st inputs t → (x : ℕ) → x < signalCount n → getD t x 0 < 2

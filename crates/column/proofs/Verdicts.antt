@@ -9,7 +9,7 @@ use Rattle.column.specs.File.{signalCount}
 use Rattle.column.specs.Check.{checkFile}
 use Rattle.column.specs.Compile.{Loaded}
 use Rattle.netlist.specs.Graph.{LoopFree}
-use Rattle.column.specs.Judge.{readsAt, Loop, Judged, bad, accepted, loop}
+use Rattle.column.specs.Judge.{readsAt, Loop, Looped, Judged, bad, accepted, loop}
 use Rattle.column.specs.declared.Checked.{Checked}
 use Rattle.column.specs.declared.Checked.the-variants.{Bad, Sound}
 use Rattle.column.specs.declared.Verdict.{Verdict}
@@ -69,12 +69,8 @@ accepted-free file (accepted e free) = free
 
 -- ---- demand 1: "a loop of wires is refused exactly when there is one, once the file is otherwise sound"
 module _ (file : List ℕ) {n m : ℕ} (sound : checkFile file ≡ Sound n m) where
-  -- some signal of the file is on a loop
-  abbrev pub Looped : Type 0
-  Looped = (x : ℕ) × (x < signalCount n) × Loop file x
-
   -- the judge answers 9 exactly when some signal is on a loop
-  pub nine-exactly : {v : Verdict} → Judged file v → ((p : ℕ) × (v ≡ Refused 9 p)) ↔ Looped
+  pub nine-exactly : {v : Verdict} → Judged file v → ((p : ℕ) × (v ≡ Refused 9 p)) ↔ Looped file n
   nine-exactly (bad e) = absurd (sound-not-bad (checkFile file) sound e)
   nine-exactly (accepted {n = i} {m = j} e free) = (
     λ r. absurd (not-both (Refused 9 (r .0)) refl (sym (r .1))),

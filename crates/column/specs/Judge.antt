@@ -18,6 +18,10 @@ readsAt file = readsIn (gateAt file)
 abbrev pub Loop : List ℕ → ℕ → Type 0
 Loop file = LoopIn (readsAt file)
 
+-- some signal of n slices is on a loop
+abbrev pub Looped : List ℕ → ℕ → Type 0
+Looped file n = (x : ℕ) × (x < signalCount n) × Loop file x
+
 -- a bad record's number and place; for sound records, accepted where no signal is on a loop, else 9 at "the smallest signal on a loop"
 pub data Judged (file : List ℕ) : Verdict → Type 0 where
   bad : {k p : ℕ} → checkFile file ≡ Bad k p → Judged file (Refused k p)

@@ -9,18 +9,17 @@ use borrow.Author.Tests.{ltb-false}
 use lib.Dec.{leb, ltb}
 use lib.ListN.{length, set, length-set}
 use Rattle.netlist.specs.Rule.{touchesInput, touchesTable}
-use Rattle.netlist.specs.Settle.{Settled}
 use Rattle.netlist.specs.declared.Gate.{Gate}
 use Rattle.netlist.proofs.Bits.{edited-bits}
 use Rattle.netlist.proofs.Net.{one-edited, input-edited, contents-edited}
 use Rattle.slicefile.specs.declared.Answer.{Answer}
 use Rattle.slicefile.specs.declared.Answer.the-variants.{Done}
 use Rattle.slicefile.proofs.Tests.{or-right}
-use Rattle.column.specs.Clock.{stateOf, State, envOf, SettledFor}
+use Rattle.column.specs.Clock.{stateOf, State, envOf, SettledFor, OnlySettled}
 use Rattle.column.specs.File.{signalCount, gateAt}
 use Rattle.column.specs.Judge.{Judged}
 use Rattle.column.specs.declared.Verdict.the-variants.{Accepted}
-use Rattle.column.proofs.Tables.{records-sound, closed, ordered, settled-once}
+use Rattle.column.proofs.Tables.{records-sound, closed, ordered, settled-only}
 use Rattle.column.proofs.Verdicts.{accepted-free}
 use Rattle.buffers.specs.Buffers.{badWord, editRefusal, badInput, badTable, GoodState, GoodInputs, GoodValues}
 use Rattle.buffers.proofs.Good.{bytes-good, good-bytes, set-bytes, set-words, state-good, edit-good, edit-tells}
@@ -57,35 +56,26 @@ table-edit-unique file contents left left′ flops table word inputs old new new
 -- ---- demand 3: "if the table was settled before .. each byte of the table as left equals that of the table settled afresh after the change". That what
 -- doesn't depend on the change keeps its byte, and what does holds its rule, on any table, is `Edited` itself
 
--- the one table that is settled for a file, a state and inputs
-abbrev pub SettledAfresh : List ℕ → State → List ℕ → List ℕ → Type 0
-SettledAfresh file st inputs t = SettledFor file st inputs t × ((fresh : List ℕ) → SettledFor file st inputs fresh → t ≡ fresh)
-
 module _ (file : List ℕ) {n m : ℕ} (j : Judged file (Accepted n m)) where
-  afresh : (st : State) (inputs t : List ℕ) → Settled (gateAt file) (signalCount n) (envOf st inputs) t → SettledAfresh file st inputs t
-  afresh st inputs t s =
-      let here : SettledFor file st inputs t = rw (records-sound file j .count) s in
-      (here, λ fresh after. settled-once file j st inputs t fresh here after)
-
   input-settles : (st : State) (input byte : ℕ) (inputs left old new : List ℕ) → left ≡ set inputs input byte → EditedFor file (touchesInput input) st left old new n
-      → SettledFor file st inputs old → SettledAfresh file st left new
+      → SettledFor file st inputs old → OnlySettled file st left new
   input-settles st input byte inputs left old new e d before =
       let s = input-edited (gateAt file) (signalCount n) (closed file j) (accepted-free file j) (envOf st inputs) input byte old new (rw (records-sound file j .count) at before) (rw e at d) in
-      rw e (afresh st (set inputs input byte) new s)
+      rw e (settled-only file j st (set inputs input byte) new s)
 
   table-settles : (contents left flops : List ℕ) (table word : ℕ) (inputs old new : List ℕ) → left ≡ set contents table word
       → EditedFor file (touchesTable table) (stateOf left flops) inputs old new n → SettledFor file (stateOf contents flops) inputs old
-      → SettledAfresh file (stateOf left flops) inputs new
+      → OnlySettled file (stateOf left flops) inputs new
   table-settles contents left flops table word inputs old new e d before =
       let s = contents-edited (gateAt file) (signalCount n) (closed file j) (accepted-free file j) (envOf (stateOf contents flops) inputs) table word old new (rw (records-sound file j .count) at before) (rw e at d) in
-      rw e (afresh (stateOf (set contents table word) flops) inputs new s)
+      rw e (settled-only file j (stateOf (set contents table word) flops) inputs new s)
 
 pub input-edit-settles : (file : List ℕ) (st : State) (input byte : ℕ) (inputs left old new : List ℕ) → InputEdited file st input byte inputs left old new Done
-    → SettledFor file st inputs old → SettledAfresh file st left new
+    → SettledFor file st inputs old → OnlySettled file st left new
 input-edit-settles file st input byte inputs left old new (done j z d) before = input-settles file j st input byte inputs left old new (d .0) (d .1) before
 
 pub table-edit-settles : (file contents left flops : List ℕ) (table word : ℕ) (inputs old new : List ℕ) → TableEdited file contents left flops table word inputs old new Done
-    → SettledFor file (stateOf contents flops) inputs old → SettledAfresh file (stateOf left flops) inputs new
+    → SettledFor file (stateOf contents flops) inputs old → OnlySettled file (stateOf left flops) inputs new
 table-edit-settles file contents left flops table word inputs old new (done j z d) before = table-settles file j contents left flops table word inputs old new (d .0) (d .1) before
 
 -- ---- calls chain: an edit takes a good state, good inputs and good values, with an argument in range, and what it leaves is good for the next call
