@@ -1,7 +1,7 @@
 -- What the promise of a call comes to: it settles the answer; and power up, every byte it leaves, which no later call refuses. Assumes nothing.
 use mathlib.Core.Path.{_≡_, _∙_, refl, sym, ap, subst⁻¹}
 use mathlib.Core.List.{List}
-use Prim.Native.Nat.{ℕ, suc, _*_, _/_, _%_}
+use Prim.Native.Nat.{ℕ, _*_, _/_, _%_}
 use native.Mathlib.Omega.{arith}
 use lib.ListN.{length}
 use Rattle.slicefile.specs.Format.{contentsWord}

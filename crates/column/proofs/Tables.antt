@@ -8,7 +8,7 @@ use Rattle.netlist.proofs.Loops.{some-order}
 use Rattle.netlist.proofs.Net.{some-settled}
 use Rattle.netlist.proofs.Bits.{settled-bits}
 use Rattle.column.specs.Clock.{State, envOf, SettledFor, OnlySettled}
-use Rattle.column.specs.File.{sliceCount, signalCount, gateAt}
+use Rattle.column.specs.File.{signalCount, gateAt}
 use Rattle.column.specs.Judge.{readsAt, Judged}
 use Rattle.column.specs.declared.Verdict.the-variants.{Accepted}
 use Rattle.column.proofs.Netlist.{sound-well-formed, settles-once}

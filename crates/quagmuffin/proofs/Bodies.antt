@@ -3,8 +3,8 @@ use mathlib.Core.Path.{_≡_, refl, sym, _∙_, ap}
 use mathlib.Core.List.{List, append-nil}
 use Prim.Native.Nat.{ℕ, zero, suc}
 use native.Mathlib.Omega.{arith}
-use lib.ListN.{length, drop, length-drop}
-use lib.Seq.{sets, length-take-le, drop-length}
+use lib.ListN.{length}
+use lib.Seq.{sets, drop-length}
 use Rattle.slicefile.specs.Format.{sliceTag, bodyLength, bodyOf}
 use Rattle.slicefile.specs.declared.Answer.{Answer}
 use Rattle.slicefile.specs.declared.Answer.the-variants.{Refused, Done}
@@ -12,7 +12,7 @@ use Rattle.fields.specs.Record.{recordOf, bodyBytes, Below}
 use Rattle.records.specs.Calls.{readRefusal, writeRefusal, answerOf, unless, readRecord, written}
 use Rattle.records.specs.declared.Reading.{Reading}
 use Rattle.records.proofs.Answers.{kept-refused, read-done}
-use Rattle.records.proofs.RoundTrip.{read-whole}
+use Rattle.records.proofs.RoundTrip.{read-body-length}
 use Rattle.fields.proofs.Pieces.{below-piece}
 use Rattle.fields.proofs.RoundTrip.{bytes-of-record}
 use Rattle.fields.proofs.Stores.{sets-front}
@@ -37,13 +37,17 @@ pub read-kept : (s : List ℕ) (n m : ℕ) (body : List ℕ) {a : Answer} {i p :
     → body ≡ unless (readRefusal s n m) (bodyBytes (readRecord s n m .slice)) body
 read-kept s n m body e f = kept-refused (readRefusal s n m) _ body (refused-some (readRefusal s n m) (sym e ∙ f))
 
+-- what is read from a record is its body
+pub read-body : (s : List ℕ) (n m : ℕ) → Below 256 s → readRefusal s n m ≡ 0 → bodyBytes (readRecord s n m .slice) ≡ bodyOf sliceTag s
+read-body s n m b e = ap (λ (r : Reading). bodyBytes (r .slice)) (read-done s n m e) ∙ bytes-of-record (bodyOf sliceTag s) (read-body-length s n m e) (below-piece s 3 124 b)
+
 -- a body into which a record was read: the record's own bytes
 pub read-stored : (s : List ℕ) (n m : ℕ) (body : List ℕ) → Below 256 s → length body ≡ bodyLength sliceTag → readRefusal s n m ≡ 0
     → (Done ≡ answerOf (readRefusal s n m)) × (sets body 0 (bodyOf sliceTag s) ≡ unless (readRefusal s n m) (bodyBytes (readRecord s n m .slice)) body)
 read-stored s n m body b h e =
-    let l : length (bodyOf sliceTag s) ≡ bodyLength sliceTag = length-take-le 124 (drop 3 s) (rw length-drop (omega (arith, read-whole s n m e))) in
+    let l = read-body-length s n m e in
     let f : sets body 0 (bodyOf sliceTag s) ≡ bodyOf sliceTag s = sets-front body (bodyOf sliceTag s) (length body) (l ∙ sym h) (omega arith) ∙ rw (drop-length body) (append-nil _) in
-    rw (read-done s n m e, e) (refl, f ∙ sym (bytes-of-record (bodyOf sliceTag s) l (below-piece s 3 124 b)))
+    rw e (refl, f ∙ sym (read-body s n m b e))
 
 -- with a body of the right length the two calls are those on the record
 pub read-sized : (s : List ℕ) (n m : ℕ) (body : List ℕ) → length body ≡ bodyLength sliceTag

@@ -1,6 +1,6 @@
--- What an exported answer tells: its number, unpacked, is the answer of the call below; 0 in its low 8 bits is done, or accepted; and the number and
--- every byte left are determined; and a refusal leaves every buffer as it was. Assumes nothing.
-use mathlib.Core.Path.{_≡_, refl, sym, _∙_, ap, subst, subst⁻¹}
+-- What an exported answer tells: its number, unpacked, is the answer of the call below; 0 in its low 8 bits is done, or accepted; any other number leaves
+-- every buffer as it was; and the number and every byte left are determined. Assumes nothing.
+use mathlib.Core.Path.{_≡_, refl, sym, _∙_, ap, subst⁻¹}
 use mathlib.Core.Bool.{Bool, true, false}
 use mathlib.Core.List.{List}
 use Prim.Native.Nat.{ℕ, _+_, _*_, _/_, _%_, _≤_}
@@ -67,13 +67,13 @@ module _ {file : List ℕ} {own : ℕ → ℕ → ℕ} {Kept : Type 0} {Did : �
       go (Refused k q) c f z = let s = called-small most c in absurd (omega (arith, s .0, s .1))
       go Done c f z = (f, c)
 
-  -- any other number is a refusal: nothing was written
-  pub refused-kept : {i : ℕ} → Answered (Called file own Kept Did) i → (i ≡ 0 → ⊥) → Kept
-  refused-kept {i} p ne = go (p .answer) (p .promised) (p .same)
-    where
-      go : (a : Answer) → Called file own Kept Did a → i ≡ packAnswer a → Kept
-      go (Refused k q) c f = call-kept file own c
-      go Done c f = absurd (ne f)
+-- ---- a number other than 0 is a refusal: nothing was written
+pub refused-kept : {file : List ℕ} {own : ℕ → ℕ → ℕ} {Kept : Type 0} {Did : ℕ → ℕ → Type 0} {i : ℕ} → Answered (Called file own Kept Did) i → (i ≡ 0 → ⊥) → Kept
+refused-kept {file} {own} {Kept} {Did} {i} p ne = go (p .answer) (p .promised) (p .same)
+  where
+    go : (a : Answer) → Called file own Kept Did a → i ≡ packAnswer a → Kept
+    go (Refused k q) c f = call-kept file own c
+    go Done c f = absurd (ne f)
 
 pub read-refused-kept : (s : List ℕ) (n m : ℕ) (old new : List ℕ) {i : ℕ} → RecordRead s n m old new i → (i ≡ 0 → ⊥) → new ≡ old
 unfolding bodyRead

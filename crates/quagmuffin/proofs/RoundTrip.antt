@@ -1,28 +1,24 @@
 -- Demand 2's round trip as a host sees it, by the bodies and parts of the two exported record calls: "reading what was written gives the same record;
 -- writing what was read gives the same bytes". Assumes nothing.
 use mathlib.Core.Path.{_≡_, refl, sym, _∙_, ap}
-use mathlib.Core.Bool.{not}
 use mathlib.Core.List.{List, _++_}
 use Prim.Native.Nat.{ℕ, zero, suc, _≤_}
 use native.Mathlib.Omega.{arith}
 use borrow.Author.Tests.{eqb-true, not-false}
-use lib.Dec.{eqb}
-use lib.ListN.{length, take, drop, length-drop}
-use lib.Seq.{length-take-le}
+use lib.ListN.{length, take, drop}
 use Rattle.slicefile.specs.Format.{sliceTag, bodyLength, recordLength, bodyOf}
 use Rattle.rules.specs.Rules.{given, _orElse_}
 use Rattle.rules.proofs.Refusals.{orElse-left, orElse-right, given-none}
 use Rattle.fields.specs.Record.{recordOf, bodyBytes, Below}
-use Rattle.fields.proofs.Pieces.{below-piece}
 use Rattle.fields.proofs.RoundTrip.{bytes-of-record}
 use Rattle.fields.proofs.Typing.{bytes-typed}
 use Rattle.records.specs.Calls.{readRefusal, writeRefusal, answerOf, unless, readRecord, written}
 use Rattle.records.specs.declared.Reading.{Reading}
 use Rattle.records.proofs.Answers.{read-done}
-use Rattle.records.proofs.RoundTrip.{read-whole, read-written, write-read}
-use Rattle.quagmuffin.specs.Bodies.{badBody, readBodyRefusal, bodyRead, writeBodyRefusal, bodyWritten, RecordRead, RecordWritten}
+use Rattle.records.proofs.RoundTrip.{read-body-length, read-written, write-read}
+use Rattle.quagmuffin.specs.Bodies.{badBody, readBodyRefusal, writeBodyRefusal, RecordRead, RecordWritten}
 use Rattle.quagmuffin.specs.Packed.{packAnswer}
-use Rattle.quagmuffin.proofs.Bodies.{done-none, read-answer, read-sized, write-sized}
+use Rattle.quagmuffin.proofs.Bodies.{done-none, read-answer, read-body, read-sized, write-sized}
 
 -- the number 0 is no refusal
 no-refusal : (k : ℕ) → 0 ≡ packAnswer (answerOf k) → k ≡ 0
@@ -32,12 +28,6 @@ no-refusal (suc k) e = absurd (omega arith)
 -- a call that isn't refused was given a body of its length
 sized : (body : List ℕ) (rest : ℕ) → (given 10 (badBody body) orElse rest) ≡ 0 → length body ≡ bodyLength sliceTag
 sized body rest e = eqb-true _ _ (not-false _ (given-none 9 (badBody body) (orElse-left (given 10 (badBody body)) rest e)))
-
--- what is read from a record is its body
-read-body : (s : List ℕ) (n m : ℕ) → Below 256 s → readRefusal s n m ≡ 0 → bodyBytes (readRecord s n m .slice) ≡ bodyOf sliceTag s
-read-body s n m b e =
-    let l : length (bodyOf sliceTag s) ≡ bodyLength sliceTag = length-take-le 124 (drop 3 s) (rw length-drop (omega (arith, read-whole s n m e))) in
-    ap (λ (r : Reading). bodyBytes (r .slice)) (read-done s n m e) ∙ bytes-of-record (bodyOf sliceTag s) l (below-piece s 3 124 b)
 
 -- reading what was written gives the same body: the first 127 bytes of what the writer left, into any body of its length
 pub reads-back : (body : List ℕ) (n m : ℕ) (part part′ old new : List ℕ) {i : ℕ} → Below 256 body → length old ≡ bodyLength sliceTag
@@ -65,7 +55,7 @@ writes-back s n m old body part part′ b room r w =
     let l = sized old (readRefusal s n m) none in
     let good : readRefusal s n m ≡ 0 = orElse-right (given 10 (badBody old)) _ none in
     let same : body ≡ bodyOf sliceTag s = r .1 ∙ read-sized s n m old l .1 ∙ ap (λ (k : ℕ). unless k (bodyBytes (readRecord s n m .slice)) old) good ∙ read-body s n m b good in
-    let long : length body ≡ bodyLength sliceTag = rw same (length-take-le 124 (drop 3 s) (rw length-drop (omega (arith, read-whole s n m good)))) in
+    let long : length body ≡ bodyLength sliceTag = rw same (read-body-length s n m good) in
     let held : readRecord s n m .slice ≡ recordOf body = rw same (ap (λ (x : Reading). x .slice) (read-done s n m good)) in
     let back = rw held at (write-read s n m part b good room) in
     let z = write-sized body n m part long in

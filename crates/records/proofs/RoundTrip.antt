@@ -33,6 +33,10 @@ pub read-whole : (s : List ℕ) (n m : ℕ) → readRefusal s n m ≡ 0 → leng
 unfolding readRefusal
 read-whole s n m e = eqb-true _ _ (not-false _ (given-none 9 _ (orElse-left (given 10 (not (eqb (length s) (recordLength sliceTag)))) _ e)))
 
+-- and so a body of 124
+pub read-body-length : (s : List ℕ) (n m : ℕ) → readRefusal s n m ≡ 0 → length (bodyOf sliceTag s) ≡ bodyLength sliceTag
+read-body-length s n m e = length-take-le 124 (drop 3 s) (rw length-drop (omega (arith, read-whole s n m e)))
+
 read-rest : (s : List ℕ) (n m : ℕ) → readRefusal s n m ≡ 0 → rest n m s ≡ 0
 unfolding readRefusal rest
 read-rest s n m e = orElse-right (given 10 (not (eqb (length s) (recordLength sliceTag)))) _ e
@@ -83,8 +87,7 @@ bytes-of-read s n m b h =
     let t0 : byteAt s 0 ≡ 2 = told .tag in
     let t1 : byteAt s 1 ≡ 124 = omega (arith, told .told, b 1, b 2) in
     let t2 : byteAt s 2 ≡ 0 = omega (arith, told .told, b 1, b 2) in
-    let long : length (piece s 3 124) ≡ 124 = length-take-le 124 (drop 3 s) (rw length-drop (omega arith)) in
-    let body = bytes-of-record (piece s 3 124) long (below-piece s 3 124 b) in
+    let body = bytes-of-record (piece s 3 124) (read-body-length s n m h) (below-piece s 3 124 b) in
     let whole = join s 0 1 126 (piece-byte s 0 (omega arith)) (join s 1 1 125 (piece-byte s 1 (omega arith)) (join s 2 1 124 {ys = piece s 3 124} (piece-byte s 2 (omega arith)) refl)) ∙ take-all 127 s (omega arith) in
     rw body (rw (t0, t1, t2) at whole)
 

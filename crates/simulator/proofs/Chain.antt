@@ -18,7 +18,7 @@ use Rattle.rules.specs.Rules.{given}
 use Rattle.series7.specs.Edge.{writeAddress, written, nextWord}
 use Rattle.sources.specs.Sources.{pinSource}
 use Rattle.series7.proofs.GateLaws.{either}
-use Rattle.column.specs.Clock.{State, powerUp, clocked, SettledFor, Run}
+use Rattle.column.specs.Clock.{State, powerUp, clocked, Run}
 use Rattle.column.specs.File.{sliceCount, inputCount, sliceBody, signalCount}
 use Rattle.column.specs.Judge.{Judged}
 use Rattle.column.specs.declared.Verdict.the-variants.{Accepted}

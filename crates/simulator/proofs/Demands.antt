@@ -4,7 +4,7 @@ use mathlib.Core.List.{List}
 use Prim.Native.Nat.{ℕ, suc, _≤_, _<_}
 use Rattle.slicefile.specs.declared.Answer.{Answer}
 use Rattle.slicefile.specs.declared.Answer.the-variants.{Done}
-use Rattle.column.specs.Clock.{State, clocked, SettledFor, Run}
+use Rattle.column.specs.Clock.{State, clocked, Run}
 use Rattle.column.specs.Judge.{Judged}
 use Rattle.column.specs.declared.Verdict.the-variants.{Accepted}
 use Rattle.column.proofs.Runs.{run-unique}
