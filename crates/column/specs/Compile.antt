@@ -4,9 +4,9 @@ use mathlib.Core.List.{List}
 use lib.ListN.{take}
 use Rattle.netlist.specs.Agree.{Agree}
 use Rattle.netlist.specs.Graph.{Ordered}
-use Rattle.levels.specs.Answer.{OrderOrLoop}
+use Rattle.toposort.specs.Answer.{OrderOrLoop}
 use Rattle.netlist.specs.Table.{gateOf}
-use Rattle.levels.specs.declared.Sorted.{Sorted}
+use Rattle.toposort.specs.declared.Sorted.{Sorted}
 use Rattle.slicefile.specs.Format.{sliceLimit}
 use Rattle.column.specs.File.{signalCount, gateAt}
 use Rattle.column.specs.Judge.{readsAt, Judged}

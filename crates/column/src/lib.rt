@@ -7,7 +7,6 @@ ghost use Rattle.column.specs.Check.{checkEnd, checkFile};
 ghost use Rattle.column.specs.Judge.{Judged};
 ghost use Rattle.netlist.specs.Table.{signalLimit};
 ghost use Rattle.column.specs.Compile.{tableLimit, Lowered, Compiled, Loaded};
-use levels::Sorted;
 use netlist::Gate;
 use netlist::SIGNAL_LIMIT;
 use slicefile::END_TAG;
@@ -16,6 +15,7 @@ use slicefile::SIZE_RECORD;
 use slicefile::SLICE_BODY;
 use slicefile::SLICE_LIMIT;
 use slicefile::SLICE_RECORD;
+use toposort::Sorted;
 
 // The longest file.
 pub const FILE_LIMIT: usize = SIZE_RECORD + SLICE_RECORD * SLICE_LIMIT + HEAD;
@@ -123,7 +123,7 @@ fn compile(file: &[u8], n: usize, m: usize, table: &mut [u16], order: &mut [u16]
     ensures { λ r. ⌜ Compiled (now (file .entry)) n (now (table .exit)) (now (order .exit)) r ⌝ }
 {
     lower(file, n, m, table);
-    levels::order_or_loop(table, n, order)
+    toposort::order_or_loop(table, n, order)
 }
 
 // The verdict on a file whose records are sound, its netlist at the front of the table and an order of its signals at the front of the other.

@@ -8,14 +8,14 @@ use lib.Seq.{sets, drop-length}
 use Rattle.slicefile.specs.Format.{sliceTag, bodyLength, bodyOf}
 use Rattle.slicefile.specs.declared.Answer.{Answer}
 use Rattle.slicefile.specs.declared.Answer.the-variants.{Refused, Done}
-use Rattle.fields.specs.Record.{recordOf, bodyBytes, Below}
-use Rattle.records.specs.Calls.{readRefusal, writeRefusal, answerOf, unless, readRecord, written}
-use Rattle.records.specs.declared.Reading.{Reading}
-use Rattle.records.proofs.Answers.{kept-refused, read-done}
-use Rattle.records.proofs.RoundTrip.{read-body-length}
-use Rattle.fields.proofs.Pieces.{below-piece}
-use Rattle.fields.proofs.RoundTrip.{bytes-of-record}
-use Rattle.fields.proofs.Stores.{sets-front}
+use Rattle.slicerecord.specs.Record.{recordOf, bodyBytes, Below}
+use Rattle.recordcalls.specs.Calls.{readRefusal, writeRefusal, answerOf, unless, readRecord, written}
+use Rattle.recordcalls.specs.declared.Reading.{Reading}
+use Rattle.recordcalls.proofs.Answers.{kept-refused, read-done}
+use Rattle.recordcalls.proofs.RoundTrip.{read-body-length}
+use Rattle.slicerecord.proofs.Pieces.{below-piece}
+use Rattle.slicerecord.proofs.RoundTrip.{bytes-of-record}
+use Rattle.slicerecord.proofs.Stores.{sets-front}
 use Rattle.quagmuffin.specs.Bodies.{readBodyRefusal, bodyRead, writeBodyRefusal, bodyWritten}
 
 -- an answer tells whether there was a refusal

@@ -10,9 +10,9 @@ use lib.ListN.{length}
 use Rattle.slicefile.specs.declared.Answer.{Answer}
 use Rattle.slicefile.specs.declared.Answer.the-variants.{Refused, Done}
 use Rattle.rules.specs.Rules.{given, _orElse_}
-use Rattle.fields.specs.Record.{recordOf}
-use Rattle.records.specs.Calls.{writeRefusal, answerOf, unless, written}
-use Rattle.records.proofs.Answers.{kept-refused}
+use Rattle.slicerecord.specs.Record.{recordOf}
+use Rattle.recordcalls.specs.Calls.{writeRefusal, answerOf, unless, written}
+use Rattle.recordcalls.proofs.Answers.{kept-refused}
 use Rattle.column.specs.Clock.{State}
 use Rattle.column.specs.Judge.{Judged}
 use Rattle.column.specs.declared.Verdict.{Verdict}

@@ -9,13 +9,13 @@ use lib.ListN.{length, take, drop}
 use Rattle.slicefile.specs.Format.{sliceTag, bodyLength, recordLength, bodyOf}
 use Rattle.rules.specs.Rules.{given, _orElse_}
 use Rattle.rules.proofs.Refusals.{orElse-left, orElse-right, given-none}
-use Rattle.fields.specs.Record.{recordOf, bodyBytes, Below}
-use Rattle.fields.proofs.RoundTrip.{bytes-of-record}
-use Rattle.fields.proofs.Typing.{bytes-typed}
-use Rattle.records.specs.Calls.{readRefusal, writeRefusal, answerOf, unless, readRecord, written}
-use Rattle.records.specs.declared.Reading.{Reading}
-use Rattle.records.proofs.Answers.{read-done}
-use Rattle.records.proofs.RoundTrip.{read-body-length, read-written, write-read}
+use Rattle.slicerecord.specs.Record.{recordOf, bodyBytes, Below}
+use Rattle.slicerecord.proofs.RoundTrip.{bytes-of-record}
+use Rattle.slicerecord.proofs.Typing.{bytes-typed}
+use Rattle.recordcalls.specs.Calls.{readRefusal, writeRefusal, answerOf, unless, readRecord, written}
+use Rattle.recordcalls.specs.declared.Reading.{Reading}
+use Rattle.recordcalls.proofs.Answers.{read-done}
+use Rattle.recordcalls.proofs.RoundTrip.{read-body-length, read-written, write-read}
 use Rattle.quagmuffin.specs.Bodies.{badBody, readBodyRefusal, writeBodyRefusal, RecordRead, RecordWritten}
 use Rattle.quagmuffin.specs.Packed.{packAnswer}
 use Rattle.quagmuffin.proofs.Bodies.{done-none, read-answer, read-body, read-sized, write-sized}

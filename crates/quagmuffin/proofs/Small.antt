@@ -20,9 +20,9 @@ use Rattle.column.specs.declared.Checked.{Checked}
 use Rattle.column.specs.declared.Checked.the-variants.{Bad, Sound}
 use Rattle.column.specs.declared.Verdict.{Verdict}
 use Rattle.column.proofs.SoundLaws.{sound-file}
-use Rattle.records.specs.Calls.{recordRefusal, readRefusal, writeRefusal, answerOf}
-use Rattle.fields.specs.Record.{recordBytes}
-use Rattle.fields.specs.declared.Record.{Record}
+use Rattle.recordcalls.specs.Calls.{recordRefusal, readRefusal, writeRefusal, answerOf}
+use Rattle.slicerecord.specs.Record.{recordBytes}
+use Rattle.slicerecord.specs.declared.Record.{Record}
 use Rattle.buffers.specs.Buffers.{badState, badLengths, badBytes, badWords, settleRefusal, editRefusal}
 use Rattle.calls.specs.Calls.{Called, judged, refused, done}
 use Rattle.quagmuffin.specs.Packed.{Small, SmallAnswer, SmallVerdict}

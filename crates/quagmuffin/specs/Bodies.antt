@@ -7,8 +7,8 @@ use lib.Dec.{eqb}
 use lib.ListN.{length}
 use Rattle.slicefile.specs.Format.{sliceTag, bodyLength}
 use Rattle.rules.specs.Rules.{given, _orElse_}
-use Rattle.fields.specs.Record.{recordOf, bodyBytes}
-use Rattle.records.specs.Calls.{readRefusal, writeRefusal, answerOf, unless, readRecord, written}
+use Rattle.slicerecord.specs.Record.{recordOf, bodyBytes}
+use Rattle.recordcalls.specs.Calls.{readRefusal, writeRefusal, answerOf, unless, readRecord, written}
 use Rattle.quagmuffin.specs.Packed.{packAnswer}
 
 abbrev pub badBody : List ℕ → Bool

@@ -8,8 +8,8 @@ ghost use Rattle.column.specs.Judge.{Judged};
 ghost use Rattle.calls.specs.Calls.{PoweredUp};
 ghost use Rattle.simulator.specs.Running.{SettleCalled, ClockCalled};
 ghost use Rattle.edits.specs.Edits.{InputEdited, TableEdited};
-ghost use Rattle.fields.specs.Record.{bodyBytes};
-ghost use Rattle.records.specs.Calls.{readRefusal, answerOf, unless, readRecord};
+ghost use Rattle.slicerecord.specs.Record.{bodyBytes};
+ghost use Rattle.recordcalls.specs.Calls.{readRefusal, answerOf, unless, readRecord};
 ghost use Rattle.quagmuffin.specs.Bodies.{RecordRead, RecordWritten};
 ghost use Rattle.quagmuffin.specs.Packed.{pack, packAnswer, packVerdict, SmallAnswer, SmallVerdict, Packed, Answered};
 use column::Verdict;
@@ -129,12 +129,12 @@ fn read_body(bytes: &[u8], n: usize, m: usize, body: &mut [u8]) -> Answer
     requires { ⌜ length (now body) ≡ bodyLength sliceTag ⌝ }
     ensures { λ r. ⌜ (r ≡ answerOf (readRefusal (now (bytes .entry)) n m)) × (now (body .exit) ≡ unless (readRefusal (now (bytes .entry)) n m) (bodyBytes (readRecord (now (bytes .entry)) n m .slice)) (now (body .entry))) ⌝ }
 {
-    let reading = records::read_record(bytes, n, m);
+    let reading = recordcalls::read_record(bytes, n, m);
     let answer = reading.answer;
     let Answer::Done = answer else {
         return answer;
     };
-    fields::put_bytes(body, 0, &bytes[HEAD..SLICE_RECORD]);
+    slicerecord::put_bytes(body, 0, &bytes[HEAD..SLICE_RECORD]);
     Answer::Done
 }
 
@@ -157,6 +157,6 @@ pub extern "C" fn qm_write_record(body: &[u8], n: usize, m: usize, part: &mut [u
     if body.len() != SLICE_BODY {
         return 10;
     }
-    let slice = fields::decode(body);
-    pack_answer(records::write_record(slice, n, m, part))
+    let slice = slicerecord::decode(body);
+    pack_answer(recordcalls::write_record(slice, n, m, part))
 }

@@ -16,9 +16,9 @@ use Rattle.rules.proofs.Refusals.{orElse-left, orElse-right, given-none}
 use Rattle.framing.proofs.RecordLaws.{header-tells}
 use Rattle.framing.proofs.EndLaws.{end-bytes}
 use Rattle.framing.proofs.PrefixLaws.{slice-stays, slice-cut}
-use Rattle.fields.specs.Record.{Below}
-use Rattle.fields.proofs.Pieces.{piece, join, piece-byte}
-use Rattle.records.specs.Calls.{recordRefusal, readRefusal}
+use Rattle.slicerecord.specs.Record.{Below}
+use Rattle.slicerecord.proofs.Pieces.{piece, join, piece-byte}
+use Rattle.recordcalls.specs.Calls.{recordRefusal, readRefusal}
 use Rattle.column.specs.File.{sliceCount, inputCount, recordStart}
 use Rattle.column.proofs.SoundLaws.{SoundFile}
 

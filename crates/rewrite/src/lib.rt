@@ -4,7 +4,7 @@ ghost use mathlib.Core.List.{_++_};
 ghost use Prim.Native.Nat.{_≤_};
 ghost use lib.ListN.{length, drop};
 ghost use Rattle.slicefile.specs.Format.{sliceTag, recordLength};
-ghost use Rattle.records.specs.Calls.{readRefusal};
+ghost use Rattle.recordcalls.specs.Calls.{readRefusal};
 ghost use Rattle.column.specs.Check.{checkFile};
 ghost use Rattle.rewrite.specs.Rewrite.{leftBy, rewritten};
 use column::Checked;
@@ -18,9 +18,9 @@ fn put_slice(bytes: &[u8], n: usize, m: usize, part: &mut [u8])
     requires { ⌜ (readRefusal (now bytes) n m ≡ 0) × (recordLength sliceTag ≤ length (now part)) ⌝ }
     ensures { λ _. ⌜ now (part .exit) ≡ now (bytes .entry) ++ drop (recordLength sliceTag) (now (part .entry)) ⌝ }
 {
-    let reading = records::read_record(bytes, n, m);
+    let reading = recordcalls::read_record(bytes, n, m);
     let slice = reading.slice;
-    records::write_record(slice, n, m, part);
+    recordcalls::write_record(slice, n, m, part);
 }
 
 // Rewrites the records of a sound file into a buffer of its length.
@@ -28,7 +28,7 @@ fn put_records(file: &[u8], n: usize, m: usize, out: &mut [u8])
     requires { ⌜ (checkFile (now file) ≡ Checked.Sound n m) × (length (now out) ≡ length (now file)) ⌝ }
     ensures { λ _. ⌜ now (out .exit) ≡ now (file .entry) ⌝ }
 {
-    fields::put_bytes(out, 0, &[1, 2, 0, n as u8, m as u8]);
+    slicerecord::put_bytes(out, 0, &[1, 2, 0, n as u8, m as u8]);
     let mut s: usize = 0;
     let mut at: usize = SIZE_RECORD;
     while s < n {
@@ -36,7 +36,7 @@ fn put_records(file: &[u8], n: usize, m: usize, out: &mut [u8])
         s += 1;
         at += SLICE_RECORD;
     }
-    fields::put_bytes(out, at, &END);
+    slicerecord::put_bytes(out, at, &END);
 }
 
 // Rewrites a file into a lent buffer of its length. A refusal writes nothing.

@@ -12,10 +12,10 @@ use lib.Seq.{getD-set-other}
 use Rattle.netlist.specs.Rule.{valueOf}
 use Rattle.netlist.specs.declared.Source.the-variants.{Constant}
 use Rattle.series7.specs.Edge.{nextFlops, nextWord}
-use Rattle.moves.specs.Moved.{Moved}
-use Rattle.edge.specs.Numbers.{edgeNumbers}
-use Rattle.moves.specs.Moves.{flopsBy}
-use Rattle.moves.proofs.Laws.{flops-law, word-law}
+use Rattle.clockedge.specs.Moved.{Moved}
+use Rattle.clocknumbers.specs.Numbers.{edgeNumbers}
+use Rattle.clockedge.specs.Moves.{flopsBy}
+use Rattle.clockedge.proofs.Laws.{flops-law, word-law}
 use Rattle.column.specs.Clock.{stateOf, clocked}
 use Rattle.column.specs.File.{sliceBody}
 use Rattle.column.proofs.SoundLaws.{SoundFile, body-good}

@@ -73,8 +73,8 @@ fn move_state(
     let mut s = 0;
     while s < n {
         let body = column::slice_body(file, n, m, s);
-        let numbers = edge::edge_of(n, m, s, body);
-        moves::move_slice(&numbers, s, inputs, values, contents, flops);
+        let numbers = clocknumbers::edge_of(n, m, s, body);
+        clockedge::move_slice(&numbers, s, inputs, values, contents, flops);
         s += 1;
     }
 }

@@ -26,7 +26,7 @@ fn settle_along(
     let mut i = 0;
     while i < order.len() {
         let x = order[i] as usize;
-        let value = gates::gate_value(table, n, x, contents, flops, inputs, values);
+        let value = evaluation::gate_value(table, n, x, contents, flops, inputs, values);
         values[x] = value;
         i += 1;
     }
@@ -147,7 +147,7 @@ fn edit_along(
     while i < order.len() {
         let x = order[i] as usize;
         if gate_reached(table, n, x, changed, edited, &marks) {
-            let fresh = gates::gate_value(table, n, x, contents, flops, inputs, values);
+            let fresh = evaluation::gate_value(table, n, x, contents, flops, inputs, values);
             marks[x] = 1;
             values[x] = fresh;
         } else {

@@ -6,7 +6,7 @@ use Rattle.netlist.specs.Graph.{WellFormed}
 use Rattle.netlist.specs.Settle.{readsIn}
 use Rattle.netlist.specs.Table.{gateOf}
 use Rattle.netlist.proofs.Agree.{agree-sym, well-formed-agree}
-use Rattle.levels.proofs.Answers.{order-or-loop-agree}
+use Rattle.toposort.proofs.Answers.{order-or-loop-agree}
 use Rattle.column.specs.File.{signalCount, gateAt}
 use Rattle.column.proofs.Netlist.{sound-well-formed}
 use Rattle.column.proofs.SoundLaws.{sound-file}

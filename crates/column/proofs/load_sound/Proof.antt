@@ -6,8 +6,8 @@ use borrow.Author.Needs.{needs}
 use lib.ListN.{length, take}
 use lib.Seq.{take-at, length-take-le}
 use Rattle.netlist.proofs.Order.{loop-free}
-use Rattle.levels.specs.Answer.{OrderOrLoop}
-use Rattle.levels.specs.declared.Sorted.{Sorted}
+use Rattle.toposort.specs.Answer.{OrderOrLoop}
+use Rattle.toposort.specs.declared.Sorted.{Sorted}
 use Rattle.slicefile.specs.Format.{sliceLimit}
 use Rattle.column.specs.Compile.{tableLength}
 use Rattle.column.specs.File.{signalCount, gateAt}

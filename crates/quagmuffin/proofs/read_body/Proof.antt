@@ -1,8 +1,8 @@
 -- `quagmuffin::read_body` meets its contract: what is stored is the body of the record that was read. Assumes nothing.
 use mathlib.Core.Path.{_≡_, sym, _∙_}
 use borrow.Author.Needs.{needs}
-use Rattle.records.specs.Calls.{readRefusal}
-use Rattle.records.proofs.RoundTrip.{read-whole}
+use Rattle.recordcalls.specs.Calls.{readRefusal}
+use Rattle.recordcalls.proofs.RoundTrip.{read-whole}
 use Rattle.quagmuffin.proofs.Bodies.{done-none, read-answer, read-kept, read-stored}
 use Rattle.quagmuffin.proofs.read_body.Statement.{statement}
 use Rattle.quagmuffin.proofs.read_body.Tie as tie

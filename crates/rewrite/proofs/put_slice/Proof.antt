@@ -1,9 +1,9 @@
 -- `rewrite::put_slice` meets its contract: writing what was read gives the same bytes. Assumes nothing.
 use mathlib.Core.Path.{_∙_, ap}
 use borrow.Author.Needs.{needs}
-use Rattle.records.specs.Calls.{written}
-use Rattle.records.specs.declared.Reading.{Reading}
-use Rattle.records.proofs.RoundTrip.{write-read}
+use Rattle.recordcalls.specs.Calls.{written}
+use Rattle.recordcalls.specs.declared.Reading.{Reading}
+use Rattle.recordcalls.proofs.RoundTrip.{write-read}
 use Rattle.rewrite.proofs.put_slice.Statement.{statement}
 use Rattle.rewrite.proofs.put_slice.Tie as tie
 

@@ -4,8 +4,8 @@ use Prim.Native.Nat.{_≤_, _-_}
 use native.Mathlib.Omega.{arith}
 use borrow.Author.Needs.{needs}
 use lib.ListN.{length}
-use Rattle.edge.specs.Numbers.{edgeLength, edgeNumbers}
-use Rattle.edge.proofs.Table.{numbers-length}
+use Rattle.clocknumbers.specs.Numbers.{edgeLength, edgeNumbers}
+use Rattle.clocknumbers.proofs.Table.{numbers-length}
 use Rattle.column.specs.File.{sliceBody}
 use Rattle.column.proofs.SoundLaws.{SoundFile, sound-file, body-length}
 use Rattle.simulator.proofs.Moving.{MovedTo, moved-start, moved-next, moved-all}

@@ -1,0 +1,88 @@
+-- `toposort::order_or_loop` meets its contract: the parts of the local arrays are zeros, from which the search starts. Assumes nothing.
+use Prim.Native.Nat.{_*_}
+use mathlib.Core.Path.{_≡_, sym}
+use native.Mathlib.Omega.{arith}
+use lib.ListN.{length, take}
+use denote.Ref.{now}
+use Rattle.netlist.specs.Table.{signalLimit}
+use Rattle.toposort.proofs.Tally.{zeros, zeros-length, zeros-all}
+use Rattle.toposort.proofs.Opening.{start}
+use borrow.Author.Needs.{needs}
+use Rattle.toposort.proofs.order_or_loop.Statement.{statement}
+use Rattle.toposort.proofs.order_or_loop.Tie as tie
+
+part : (c : tie.Start) → 32 * c .args .n ≡ length (take (32 * c .args .n) (zeros signalLimit))
+part c = sym (zeros-length signalLimit (32 * c .args .n) (c .pre .0 .0))
+
+mul-size : tie.Need-mul-size
+mul-size c = search needs
+
+array-borrow-prefix-marks : tie.Need-array-borrow-prefix-marks
+array-borrow-prefix-marks c = search needs
+
+slice-aggregate-scan-all : tie.Need-slice-aggregate-scan-all
+slice-aggregate-scan-all c = part (c .before .before .before)
+
+array-borrow-prefix-pos : tie.Need-array-borrow-prefix-pos
+array-borrow-prefix-pos c = search needs
+
+slice-aggregate-scan-all-2 : tie.Need-slice-aggregate-scan-all-2
+slice-aggregate-scan-all-2 c = part (c .before .before .before .before)
+
+array-borrow-prefix-stack : tie.Need-array-borrow-prefix-stack
+array-borrow-prefix-stack c = search needs
+
+slice-aggregate-scan-all-3 : tie.Need-slice-aggregate-scan-all-3
+slice-aggregate-scan-all-3 c = part (c .before .before .before .before .before)
+
+array-borrow-prefix-heads : tie.Need-array-borrow-prefix-heads
+array-borrow-prefix-heads c = search needs
+
+slice-aggregate-scan-all-4 : tie.Need-slice-aggregate-scan-all-4
+slice-aggregate-scan-all-4 c = part (c .before .before .before .before .before .before)
+
+array-borrow-prefix-path : tie.Need-array-borrow-prefix-path
+array-borrow-prefix-path c = search needs
+
+slice-aggregate-scan-all-5 : tie.Need-slice-aggregate-scan-all-5
+slice-aggregate-scan-all-5 c = part (c .before .before .before .before .before .before .before)
+
+scan-all-requires : tie.Need-scan-all-requires
+scan-all-requires c κs =
+    let b = c .before .before .before .before .before .before .before .before in
+    let z = take (32 * b .args .n) (zeros signalLimit) in
+    let e = sym (part b) in
+    (start _ (32 * b .args .n) z z z z z (now (b .args .order)) (b .pre .1) (b .pre .0 .0) e e e e e (b .pre .0 .2) (zeros-all signalLimit (32 * b .args .n)), b .pre .0 .1)
+
+same-length : tie.Need-same-length
+same-length c = search needs
+
+returns : tie.Need-returns
+returns c = let s = c .before .before .before .before .before .before .before .before .scan-all .ensures in (c .if1 .taken, s .loops (c .if1 .taken), s .least)
+
+same-length-2 : tie.Need-same-length-2
+same-length-2 c = search needs
+
+returns-2 : tie.Need-returns-2
+returns-2 c = let s = c .before .before .before .before .before .before .before .before .scan-all .ensures in s .ordered (omega (arith, s .best-le, c .if1 .left))
+
+pub order-or-loop-spec : {M : Type 1} → statement M
+order-or-loop-spec =
+    tie.close
+    (tie.spec
+    mul-size
+    array-borrow-prefix-marks
+    slice-aggregate-scan-all
+    array-borrow-prefix-pos
+    slice-aggregate-scan-all-2
+    array-borrow-prefix-stack
+    slice-aggregate-scan-all-3
+    array-borrow-prefix-heads
+    slice-aggregate-scan-all-4
+    array-borrow-prefix-path
+    slice-aggregate-scan-all-5
+    scan-all-requires
+    same-length
+    returns
+    same-length-2
+    returns-2)

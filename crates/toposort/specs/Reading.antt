@@ -1,0 +1,36 @@
+-- The six places at which the search looks for the signals that a signal reads.
+use mathlib.Core.Bool.{cond}
+use mathlib.Core.List.{List, [], _∷_}
+use Prim.Native.Nat.{ℕ, zero, suc, _+_, _-_, _*_}
+use lib.Dec.{eqb, ltb}
+use Rattle.netlist.specs.declared.Source.{Source}
+use Rattle.netlist.specs.declared.Source.the-variants.{Constant, Input, Signal as SignalSource}
+use Rattle.netlist.specs.declared.Gate.{Gate}
+use Rattle.toposort.specs.declared.Read.{Read}
+use Rattle.toposort.specs.declared.Read.the-variants.{Signal, Nothing}
+use Rattle.netlist.specs.Rule.{sourcesOf}
+
+-- "reading a pin is reading the signal that drives it, if any"
+unfoldable pub asRead : Source → Read
+asRead (Constant b) = Nothing
+asRead (Input j) = Nothing
+asRead (SignalSource y) = Signal y
+
+-- what is read at place i of some sources
+unfoldable pub readIn : List Source → ℕ → Read
+readIn [] i = Nothing
+readIn (s ∷ ss) zero = asRead s
+readIn (s ∷ ss) (suc i) = readIn ss i
+
+-- what signal x reads at place i of six, from its sixth source down to its first: the places that its gate doesn't have come first
+abbrev pub readAt : (ℕ → Gate) → ℕ → ℕ → Read
+readAt g x i = readIn (sourcesOf (g x)) (5 - i)
+
+-- how many sources a gate with this head reads, in a gate table of n slices
+unfoldable pub placeCount : ℕ → ℕ → ℕ
+placeCount n head =
+    cond (ltb head (4 * n)) 6 (cond (ltb head (16 * n)) 0 (cond (eqb head (16 * n)) 3 (cond (eqb head (16 * n + 1)) 2 1)))
+
+-- the mark of a signal that is opened, past the places that its gate doesn't have
+abbrev pub firstMark : ℕ → ℕ → ℕ
+firstMark n head = 7 - placeCount n head

@@ -1,0 +1,358 @@
+// One path-based search for strongly connected components over a gate table, with no recursion.
+ghost use mathlib.Core.Path.{_≡_};
+ghost use Prim.Native.Nat.{_+_, _*_, _-_, _≤_, _<_};
+ghost use mathlib.Core.Logic.{_⊎_};
+ghost use lib.ListN.{length, getD, set};
+ghost use Rattle.netlist.specs.Graph.{WellFormed};
+ghost use Rattle.netlist.specs.Settle.{readsIn};
+ghost use Rattle.netlist.specs.Table.{signalLimit, sourceOf, gateOf};
+ghost use Rattle.toposort.specs.Reading.{asRead, readAt, placeCount, firstMark};
+ghost use Rattle.toposort.specs.Answer.{OrderOrLoop};
+ghost use Rattle.toposort.specs.Components.{Components, TopReady, Wants, Scanning, Scanned, Above, Least};
+use netlist::SIGNAL_LIMIT;
+
+// The answer of the search for loops: the smallest signal on one, or none, with an order.
+pub enum Sorted {
+    Loop(usize),
+    Done,
+}
+
+// What a signal reads at one of its six places.
+pub enum Read {
+    Signal(usize),
+    Nothing,
+}
+
+fn wide8(x: u8) -> usize
+    ensures { λ r. ⌜ r ≡ x ⌝ }
+{
+    x as usize
+}
+
+fn wide16(x: u16) -> usize
+    ensures { λ r. ⌜ r ≡ x ⌝ }
+{
+    x as usize
+}
+
+// What is read where a source has this code.
+fn read_of(code: usize) -> Read
+    ensures { λ r. ⌜ r ≡ asRead (sourceOf code) ⌝ }
+{
+    if code < 4096 {
+        Read::Nothing
+    } else {
+        Read::Signal(code - 4096)
+    }
+}
+
+// How many sources a gate with this head reads.
+fn place_count(n: usize, head: usize) -> usize
+    requires { ⌜ 32 * n ≤ signalLimit ⌝ }
+    ensures { λ r. ⌜ r ≡ placeCount n head ⌝ }
+{
+    if head < 4 * n {
+        6
+    } else if head < 16 * n {
+        0
+    } else if head == 16 * n {
+        3
+    } else if head == 16 * n + 1 {
+        2
+    } else {
+        1
+    }
+}
+
+// What signal x reads at place i, from its sixth source down to its first.
+fn read_at(table: &[u16], n: usize, x: usize, i: usize) -> Read
+    requires { ⌜ (32 * n ≤ signalLimit) × (length (now table) ≡ 224 * n) × (x < 32 * n) × (i < 6) ⌝ }
+    ensures { λ r. ⌜ r ≡ readAt (gateOf (now (table .entry)) n) x i ⌝ }
+{
+    let at = 7 * x;
+    let head = wide16(table[at]);
+    let source = 5 - i;
+    if source < place_count(n, head) {
+        let code = wide16(table[at + 1 + source]);
+        return read_of(code);
+    }
+    Read::Nothing
+}
+
+// The mark of signal x when it is opened, past the places that its gate doesn't have.
+fn first_mark(table: &[u16], n: usize, x: usize) -> u8
+    requires { ⌜ (32 * n ≤ signalLimit) × (length (now table) ≡ 224 * n) × (x < 32 * n) ⌝ }
+    ensures { λ r. ⌜ r ≡ firstMark n (getD (now (table .entry)) (7 * x) 0) ⌝ }
+{
+    let head = wide16(table[7 * x]);
+    let places = place_count(n, head);
+    (7 - places) as u8
+}
+
+// Where the search stands: the next root to try, how many signals are open, how many are on the stack, how many components
+// the stack has, how many signals are done, and the smallest signal known to be on a loop (the number of signals where none is).
+pub struct Scan {
+    pub next: usize,
+    pub depth: usize,
+    pub len: usize,
+    pub count: usize,
+    pub done: usize,
+    pub best: usize,
+}
+
+// What the open signal on top asks for next.
+pub enum Turn {
+    Close(usize),
+    Leave,
+    Raise,
+    Open(usize),
+    Merge(usize),
+    Meet(usize),
+}
+
+// What the open signal on top asks for. After its sixth read it is done, and where its component begins with it, so is that.
+// A read that is nothing, or in a closed component, raises the mark; an unseen signal is opened; one on the stack before the
+// last component shows that the last two components are one; one in the last component shows that the top is on a loop.
+fn next_turn(
+    table: &[u16],
+    n: usize,
+    marks: &[u8],
+    pos: &[u16],
+    stack: &[u16],
+    heads: &[u16],
+    len: usize,
+    count: usize,
+    top: usize,
+) -> Turn
+    requires { ⌜ WellFormed (readsIn (gateOf (now table) n)) (32 * n) × (length (now table) ≡ 224 * n) ⌝ }
+    requires { ⌜ TopReady (32 * n) (now marks) (now pos) (now stack) (now heads) len count top ⌝ }
+    ensures { λ r. ⌜ Wants (gateOf (now (table .entry)) n) (32 * n) (now (marks .entry)) (now (pos .entry)) (now (stack .entry)) (now (heads .entry)) len count top r ⌝ }
+{
+    let last = count - 1;
+    let head = wide16(heads[last]);
+    let mark = marks[top];
+    if mark == 7 {
+        let at = wide16(pos[top]);
+        if at == head {
+            return Turn::Close(at);
+        }
+        return Turn::Leave;
+    }
+    match read_at(table, n, top, wide8(mark) - 1) {
+        Read::Nothing => Turn::Raise,
+        Read::Signal(y) => {
+            if marks[y] == 0 {
+                return Turn::Open(y);
+            }
+            let place = wide16(pos[y]);
+            if len <= place {
+                return Turn::Raise;
+            }
+            if wide16(stack[place]) == y {
+                if place < head {
+                    return Turn::Merge(y);
+                }
+                return Turn::Meet(y);
+            }
+            Turn::Raise
+        }
+    }
+}
+
+// Opens y, a component of its own at the end of the stack.
+fn open_signal(
+    table: &[u16],
+    n: usize,
+    marks: &mut [u8],
+    pos: &mut [u16],
+    stack: &mut [u16],
+    heads: &mut [u16],
+    path: &mut [u16],
+    order: &mut [u16],
+    p: Scan,
+    y: usize,
+) -> Scan
+    requires { ⌜ Scanning (gateOf (now table) n) (32 * n) (now marks) (now pos) (now stack) (now heads) (now path) (now order) p ⌝ }
+    requires { ⌜ (p .next < 32 * n) × (y < 32 * n) × (getD (now marks) y 0 ≡ 0) × (length (now table) ≡ 224 * n) ⌝ }
+    requires { ⌜ Above (gateOf (now table) n) (now stack) (p .len) y ⌝ }
+    ensures { λ r. ⌜ Scanned (gateOf (now (table .entry)) n) (32 * n) (now (marks .entry)) p (now (marks .exit)) (now (pos .exit)) (now (stack .exit)) (now (heads .exit)) (now (path .exit)) (now (order .exit)) r ⌝ }
+{
+    let len = p.len;
+    let count = p.count;
+    let depth = p.depth;
+    let mark = first_mark(table, n, y);
+    marks[y] = mark;
+    pos[y] = len as u16;
+    stack[len] = y as u16;
+    heads[count] = len as u16;
+    path[depth] = y as u16;
+    let mut q = p;
+    q.depth = depth + 1;
+    q.len = len + 1;
+    q.count = count + 1;
+    q
+}
+
+// The top is done: it is listed, and the stack is cut to a length and a count of components.
+fn close_top(
+    marks: &mut [u8],
+    order: &mut [u16],
+    p: Scan,
+    top: usize,
+    len: usize,
+    count: usize,
+) -> Scan
+    requires { ⌜ (top < length (now marks)) × (top < signalLimit) × (p .done < length (now order)) × (p .done < signalLimit) × (0 < p .depth) ⌝ }
+    ensures { λ _. ⌜ (now (marks .exit) ≡ set (now (marks .entry)) top 8) × (now (order .exit) ≡ set (now (order .entry)) (p .done) top) ⌝ }
+    ensures { λ r. ⌜ r ≡ record { next = p .next; depth = p .depth - 1; len = len; count = count; done = p .done + 1; best = p .best } ⌝ }
+{
+    let depth = p.depth;
+    let done = p.done;
+    marks[top] = 8;
+    order[done] = top as u16;
+    let mut q = p;
+    q.depth = depth - 1;
+    q.len = len;
+    q.count = count;
+    q.done = done + 1;
+    q
+}
+
+fn smaller(a: usize, b: usize) -> usize
+    ensures { λ r. ⌜ (r ≤ a) × (r ≤ b) × ((r ≡ b) ⊎ (r ≡ a)) ⌝ }
+{
+    if a < b {
+        return a;
+    }
+    b
+}
+
+// One turn of the open signal on top.
+fn take_turn(
+    table: &[u16],
+    n: usize,
+    marks: &mut [u8],
+    pos: &mut [u16],
+    stack: &mut [u16],
+    heads: &mut [u16],
+    path: &mut [u16],
+    order: &mut [u16],
+    p: Scan,
+    top: usize,
+) -> Scan
+    requires { ⌜ Scanning (gateOf (now table) n) (32 * n) (now marks) (now pos) (now stack) (now heads) (now path) (now order) p ⌝ }
+    requires { ⌜ (p .next < 32 * n) × (0 < p .depth) × (getD (now path) (p .depth - 1) 0 ≡ top) × (length (now table) ≡ 224 * n) ⌝ }
+    ensures { λ r. ⌜ Scanned (gateOf (now (table .entry)) n) (32 * n) (now (marks .entry)) p (now (marks .exit)) (now (pos .exit)) (now (stack .exit)) (now (heads .exit)) (now (path .exit)) (now (order .exit)) r ⌝ }
+{
+    let len = p.len;
+    let count = p.count;
+    let best = p.best;
+    let mut q = p;
+    match next_turn(table, n, marks, pos, stack, heads, len, count, top) {
+        Turn::Close(at) => close_top(marks, order, p, top, at, count - 1),
+        Turn::Leave => close_top(marks, order, p, top, len, count),
+        Turn::Raise => {
+            marks[top] = marks[top] + 1;
+            p
+        }
+        Turn::Open(y) => open_signal(table, n, marks, pos, stack, heads, path, order, p, y),
+        Turn::Merge(_) => {
+            q.count = count - 1;
+            q
+        }
+        Turn::Meet(_) => {
+            marks[top] = marks[top] + 1;
+            q.best = smaller(top, best);
+            q
+        }
+    }
+}
+
+// One step: a turn of the top, or the next root where nothing is open.
+fn scan_step(
+    table: &[u16],
+    n: usize,
+    marks: &mut [u8],
+    pos: &mut [u16],
+    stack: &mut [u16],
+    heads: &mut [u16],
+    path: &mut [u16],
+    order: &mut [u16],
+    p: Scan,
+) -> Scan
+    requires { ⌜ Scanning (gateOf (now table) n) (32 * n) (now marks) (now pos) (now stack) (now heads) (now path) (now order) p ⌝ }
+    requires { ⌜ (p .next < 32 * n) × (length (now table) ≡ 224 * n) ⌝ }
+    ensures { λ r. ⌜ Scanned (gateOf (now (table .entry)) n) (32 * n) (now (marks .entry)) p (now (marks .exit)) (now (pos .exit)) (now (stack .exit)) (now (heads .exit)) (now (path .exit)) (now (order .exit)) r ⌝ }
+{
+    let next = p.next;
+    let depth = p.depth;
+    if 0 < depth {
+        let last = depth - 1;
+        let top = wide16(path[last]);
+        return take_turn(table, n, marks, pos, stack, heads, path, order, p, top);
+    }
+    if marks[next] == 0 {
+        return open_signal(table, n, marks, pos, stack, heads, path, order, p, next);
+    }
+    let mut q = p;
+    q.next = next + 1;
+    q
+}
+
+// The smallest signal on a loop, or the number of signals and a topological order, by a search from marks that are all zero.
+fn scan_all(
+    table: &[u16],
+    n: usize,
+    marks: &mut [u8],
+    pos: &mut [u16],
+    stack: &mut [u16],
+    heads: &mut [u16],
+    path: &mut [u16],
+    order: &mut [u16],
+) -> usize
+    requires { ⌜ Components (gateOf (now table) n) (32 * n) (now marks) (now pos) (now stack) (now heads) (now path) (now order) 0 0 0 0 0 (32 * n) ⌝ }
+    requires { ⌜ length (now table) ≡ 224 * n ⌝ }
+    ensures { λ r. ⌜ Least (gateOf (now (table .entry)) n) (32 * n) (now (order .exit)) r ⌝ }
+{
+    let size = 32 * n;
+    let mut p = Scan {
+        next: 0,
+        depth: 0,
+        len: 0,
+        count: 0,
+        done: 0,
+        best: size,
+    };
+    while p.next < size {
+        p = scan_step(table, n, marks, pos, stack, heads, path, order, p);
+    }
+    p.best
+}
+
+// The smallest signal on a loop, or a topological order, of the netlist of n slices in the gate table, in time linear in n.
+pub fn order_or_loop(table: &[u16], n: usize, order: &mut [u16]) -> Sorted
+    requires { ⌜ (32 * n ≤ signalLimit) × (length (now table) ≡ 224 * n) × (length (now order) ≡ 32 * n) ⌝ }
+    requires { ⌜ WellFormed (readsIn (gateOf (now table) n)) (32 * n) ⌝ }
+    ensures { λ r. ⌜ OrderOrLoop (gateOf (now (table .entry)) n) (32 * n) (now (order .exit)) r ⌝ }
+{
+    let mut marks = [0u8; SIGNAL_LIMIT];
+    let mut pos = [0u16; SIGNAL_LIMIT];
+    let mut stack = [0u16; SIGNAL_LIMIT];
+    let mut heads = [0u16; SIGNAL_LIMIT];
+    let mut path = [0u16; SIGNAL_LIMIT];
+    let size = 32 * n;
+    let best = scan_all(
+        table,
+        n,
+        &mut marks[..size],
+        &mut pos[..size],
+        &mut stack[..size],
+        &mut heads[..size],
+        &mut path[..size],
+        order,
+    );
+    if best < size {
+        return Sorted::Loop(best);
+    }
+    Sorted::Done
+}
