@@ -2,6 +2,7 @@
 ghost use mathlib.Core.Path.{_≡_};
 ghost use Prim.Native.Nat.{_*_, _<_, _≤_};
 ghost use lib.ListN.{length};
+ghost use Rattle.lent.specs.Lent.{was};
 ghost use Rattle.slicefile.specs.Format.{sliceLimit};
 ghost use Rattle.column.specs.Check.{checkFile};
 ghost use Rattle.column.specs.Clock.{stateOf};
@@ -11,7 +12,7 @@ use column::Checked;
 // Whether the contents or the flip-flops have another length than n slices take.
 pub fn bad_state(n: usize, contents: &[u64], flops: &[u8]) -> bool
     requires { ⌜ n ≤ sliceLimit ⌝ }
-    ensures { λ r. ⌜ r ≡ badState n (stateOf (now (contents .entry)) (now (flops .entry))) ⌝ }
+    ensures { λ r. ⌜ r ≡ badState n (stateOf (was contents) (was flops)) ⌝ }
 {
     (contents.len() != 4 * n) | (flops.len() != n)
 }
@@ -26,14 +27,14 @@ fn bad_lengths(
     values: &[u8],
 ) -> bool
     requires { ⌜ n ≤ sliceLimit ⌝ }
-    ensures { λ r. ⌜ r ≡ badLengths n m (stateOf (now (contents .entry)) (now (flops .entry))) (now (inputs .entry)) (now (values .entry)) ⌝ }
+    ensures { λ r. ⌜ r ≡ badLengths n m (stateOf (was contents) (was flops)) (was inputs) (was values) ⌝ }
 {
     bad_state(n, contents, flops) | (inputs.len() != m) | (values.len() != 32 * n)
 }
 
 // Whether a byte is neither 0 nor 1.
 fn bad_bytes(bytes: &[u8]) -> bool
-    ensures { λ r. ⌜ r ≡ badBytes (now (bytes .entry)) ⌝ }
+    ensures { λ r. ⌜ r ≡ badBytes (was bytes) ⌝ }
 {
     let mut found = false;
     let mut i = 0;
@@ -47,7 +48,7 @@ fn bad_bytes(bytes: &[u8]) -> bool
 // Whether a word has bits 32 to 63 set while table t of a sound file is in shift mode.
 fn bad_word(file: &[u8], n: usize, m: usize, t: usize, word: u64) -> bool
     requires { ⌜ (checkFile (now file) ≡ Checked.Sound n m) × (t < 4 * n) ⌝ }
-    ensures { λ r. ⌜ r ≡ badWord (now (file .entry)) t word ⌝ }
+    ensures { λ r. ⌜ r ≡ badWord (was file) t word ⌝ }
 {
     let body = column::slice_body(file, n, m, t / 4);
     (body[2 + t % 4] == 2) & (4294967296 <= word)
@@ -56,7 +57,7 @@ fn bad_word(file: &[u8], n: usize, m: usize, t: usize, word: u64) -> bool
 // Whether any word does.
 fn bad_words(file: &[u8], n: usize, m: usize, contents: &[u64]) -> bool
     requires { ⌜ (checkFile (now file) ≡ Checked.Sound n m) × (length (now contents) ≡ 4 * n) ⌝ }
-    ensures { λ r. ⌜ r ≡ badWords (now (file .entry)) (now (contents .entry)) ⌝ }
+    ensures { λ r. ⌜ r ≡ badWords (was file) (was contents) ⌝ }
 {
     let mut found = false;
     let mut t = 0;
@@ -70,7 +71,7 @@ fn bad_words(file: &[u8], n: usize, m: usize, contents: &[u64]) -> bool
 // Whether a table is not there, or its mode does not allow the word.
 pub fn bad_table(file: &[u8], n: usize, m: usize, table: usize, word: u64) -> bool
     requires { ⌜ checkFile (now file) ≡ Checked.Sound n m ⌝ }
-    ensures { λ r. ⌜ r ≡ badTable (now (file .entry)) n table word ⌝ }
+    ensures { λ r. ⌜ r ≡ badTable (was file) n table word ⌝ }
 {
     if 4 * n <= table {
         return true;
@@ -89,7 +90,7 @@ pub fn settle_refusal(
     values: &[u8],
 ) -> usize
     requires { ⌜ checkFile (now file) ≡ Checked.Sound n m ⌝ }
-    ensures { λ r. ⌜ r ≡ settleRefusal (now (file .entry)) (stateOf (now (contents .entry)) (now (flops .entry))) (now (inputs .entry)) (now (values .entry)) n m ⌝ }
+    ensures { λ r. ⌜ r ≡ settleRefusal (was file) (stateOf (was contents) (was flops)) (was inputs) (was values) n m ⌝ }
 {
     if bad_lengths(n, m, contents, flops, inputs, values) {
         return 10;
@@ -114,7 +115,7 @@ pub fn edit_refusal(
     values: &[u8],
 ) -> usize
     requires { ⌜ checkFile (now file) ≡ Checked.Sound n m ⌝ }
-    ensures { λ r. ⌜ r ≡ editRefusal bad (now (file .entry)) (stateOf (now (contents .entry)) (now (flops .entry))) (now (inputs .entry)) (now (values .entry)) n m ⌝ }
+    ensures { λ r. ⌜ r ≡ editRefusal bad (was file) (stateOf (was contents) (was flops)) (was inputs) (was values) n m ⌝ }
 {
     if bad_lengths(n, m, contents, flops, inputs, values) {
         return 10;

@@ -2,6 +2,7 @@
 ghost use mathlib.Core.Path.{_≡_};
 ghost use Prim.Native.Nat.{_*_};
 ghost use lib.ListN.{length};
+ghost use Rattle.lent.specs.Lent.{was, left};
 ghost use Rattle.column.specs.Check.{checkFile};
 ghost use Rattle.column.specs.Clock.{stateOf, powerUp};
 ghost use Rattle.column.specs.Judge.{Judged};
@@ -23,7 +24,7 @@ pub fn refusal(v: Verdict) -> Answer
 // Fills the contents with those of a sound file.
 fn fill_contents(file: &[u8], n: usize, m: usize, contents: &mut [u64])
     requires { ⌜ (checkFile (now file) ≡ Checked.Sound n m) × (length (now contents) ≡ 4 * n) ⌝ }
-    ensures { λ _. ⌜ now (contents .exit) ≡ powerUp (now (file .entry)) .contents ⌝ }
+    ensures { λ _. ⌜ left contents ≡ powerUp (was file) .contents ⌝ }
 {
     let mut t = 0;
     while t < 4 * n {
@@ -36,7 +37,7 @@ fn fill_contents(file: &[u8], n: usize, m: usize, contents: &mut [u64])
 // Fills the flip-flops with the power-up bits of a sound file.
 fn fill_flops(file: &[u8], n: usize, m: usize, flops: &mut [u8])
     requires { ⌜ (checkFile (now file) ≡ Checked.Sound n m) × (length (now flops) ≡ n) ⌝ }
-    ensures { λ _. ⌜ now (flops .exit) ≡ powerUp (now (file .entry)) .flops ⌝ }
+    ensures { λ _. ⌜ left flops ≡ powerUp (was file) .flops ⌝ }
 {
     let mut s = 0;
     while s < n {
@@ -55,7 +56,7 @@ fn power_up_accepted(
     flops: &mut [u8],
 ) -> Answer
     requires { ⌜ Judged (now file) (Verdict.Accepted n m) ⌝ }
-    ensures { λ r. ⌜ PoweredUp (now (file .entry)) (stateOf (now (contents .entry)) (now (flops .entry))) (stateOf (now (contents .exit)) (now (flops .exit))) r ⌝ }
+    ensures { λ r. ⌜ PoweredUp (was file) (stateOf (was contents) (was flops)) (stateOf (left contents) (left flops)) r ⌝ }
 {
     if buffers::bad_state(n, contents, flops) {
         return Answer::Refused {
@@ -70,7 +71,7 @@ fn power_up_accepted(
 
 // Fills 4n words of contents and n flip-flop bytes with the state at power-up.
 pub fn power_up(file: &[u8], contents: &mut [u64], flops: &mut [u8]) -> Answer
-    ensures { λ r. ⌜ PoweredUp (now (file .entry)) (stateOf (now (contents .entry)) (now (flops .entry))) (stateOf (now (contents .exit)) (now (flops .exit))) r ⌝ }
+    ensures { λ r. ⌜ PoweredUp (was file) (stateOf (was contents) (was flops)) (stateOf (left contents) (left flops)) r ⌝ }
 {
     let v = column::judge(file);
     let Verdict::Accepted { n, m } = v else {

@@ -2,6 +2,7 @@
 ghost use mathlib.Core.Path.{_≡_};
 ghost use Prim.Native.Nat.{_+_, _*_, _<_, _≤_};
 ghost use lib.ListN.{length, getD, set};
+ghost use Rattle.lent.specs.Lent.{was, left};
 ghost use Rattle.netlist.specs.Rule.{bitAt, valueOf};
 ghost use Rattle.series7.specs.Edge.{withBit, shifted};
 ghost use Rattle.clocknumbers.specs.Numbers.{edgeLength};
@@ -11,7 +12,7 @@ ghost use Rattle.clockedge.specs.Moved.{Moved};
 // The flip-flop byte of a slice after the edge.
 pub fn next_flops(edge: &[u16], inputs: &[u8], values: &[u8], old: u8) -> u8
     requires { ⌜ length (now edge) ≡ edgeLength ⌝ }
-    ensures { λ r. ⌜ r ≡ flopsBy (valueOf (now (inputs .entry)) (now (values .entry))) (now (edge .entry)) old ⌝ }
+    ensures { λ r. ⌜ r ≡ flopsBy (valueOf (was inputs) (was values)) (was edge) old ⌝ }
 {
     let reset = evaluation::code_value(edge[1], inputs, values);
     if reset == 1 {
@@ -51,7 +52,7 @@ fn bit_31(word: u64) -> u8
 // Letter l's word after the edge; `next` is the next letter's word before it.
 pub fn next_word(edge: &[u16], l: usize, inputs: &[u8], values: &[u8], old: u64, next: u64) -> u64
     requires { ⌜ (length (now edge) ≡ edgeLength) × (l < 4) ⌝ }
-    ensures { λ r. ⌜ r ≡ wordBy (valueOf (now (inputs .entry)) (now (values .entry))) (now (edge .entry)) l old next ⌝ }
+    ensures { λ r. ⌜ r ≡ wordBy (valueOf (was inputs) (was values)) (was edge) l old next ⌝ }
 {
     let enable = evaluation::code_value(edge[2], inputs, values);
     if enable != 1 {
@@ -73,7 +74,7 @@ pub fn next_word(edge: &[u16], l: usize, inputs: &[u8], values: &[u8], old: u64,
 }
 
 fn word_at(contents: &[u64], i: usize) -> u64
-    ensures { λ r. ⌜ r ≡ getD (now (contents .entry)) i 0 ⌝ }
+    ensures { λ r. ⌜ r ≡ getD (was contents) i 0 ⌝ }
 {
     if i < contents.len() { contents[i] } else { 0 }
 }
@@ -81,7 +82,7 @@ fn word_at(contents: &[u64], i: usize) -> u64
 // Moves the words of slice s, ascending, so that each letter still sees the next one's word before the edge.
 fn move_words(edge: &[u16], s: usize, inputs: &[u8], values: &[u8], contents: &mut [u64])
     requires { ⌜ (length (now edge) ≡ edgeLength) × (4 * s + 4 ≤ length (now contents)) ⌝ }
-    ensures { λ _. ⌜ Moved (valueOf (now (inputs .entry)) (now (values .entry))) (now (edge .entry)) s 4 (now (contents .entry)) (now (contents .exit)) ⌝ }
+    ensures { λ _. ⌜ Moved (valueOf (was inputs) (was values)) (was edge) s 4 (was contents) (left contents) ⌝ }
 {
     let mut l = 0;
     while l < 4 {
@@ -103,8 +104,8 @@ pub fn move_slice(
     flops: &mut [u8],
 )
     requires { ⌜ (length (now edge) ≡ edgeLength) × (4 * s + 4 ≤ length (now contents)) × (s < length (now flops)) ⌝ }
-    ensures { λ _. ⌜ Moved (valueOf (now (inputs .entry)) (now (values .entry))) (now (edge .entry)) s 4 (now (contents .entry)) (now (contents .exit)) ⌝ }
-    ensures { λ _. ⌜ now (flops .exit) ≡ set (now (flops .entry)) s (flopsBy (valueOf (now (inputs .entry)) (now (values .entry))) (now (edge .entry)) (getD (now (flops .entry)) s 0)) ⌝ }
+    ensures { λ _. ⌜ Moved (valueOf (was inputs) (was values)) (was edge) s 4 (was contents) (left contents) ⌝ }
+    ensures { λ _. ⌜ left flops ≡ set (was flops) s (flopsBy (valueOf (was inputs) (was values)) (was edge) (getD (was flops) s 0)) ⌝ }
 {
     move_words(edge, s, inputs, values, contents);
     let byte = next_flops(edge, inputs, values, flops[s]);

@@ -2,6 +2,7 @@
 ghost use mathlib.Core.Path.{_≡_};
 ghost use Prim.Native.Nat.{_<_, _≤_};
 ghost use lib.ListN.{length};
+ghost use Rattle.lent.specs.Lent.{was};
 ghost use Rattle.netlist.specs.Table.{inputRoom, codeOf};
 ghost use Rattle.slicefile.specs.Format.{sliceLimit};
 ghost use Rattle.sources.specs.Sources.{pinSource, own};
@@ -14,7 +15,7 @@ pub const EDGE_LENGTH: usize = 27;
 // The code of what drives pin p of a slice.
 fn pin_code(n: usize, m: usize, body: &[u8], p: usize) -> u16
     requires { ⌜ (length (now body) ≡ 124) × (0 < n) × (n ≤ sliceLimit) × (m ≤ inputRoom) × (p < 31) ⌝ }
-    ensures { λ r. ⌜ r ≡ codeOf (pinSource n m (now (body .entry)) p) ⌝ }
+    ensures { λ r. ⌜ r ≡ codeOf (pinSource n m (was body) p) ⌝ }
 {
     netlist::source_code(sources::pin_source(n, m, body, p))
 }
@@ -30,7 +31,7 @@ fn own_code(s: usize, k: usize) -> u16
 // The set/reset pin, where it is used.
 fn reset_code(n: usize, m: usize, body: &[u8]) -> u16
     requires { ⌜ (length (now body) ≡ 124) × (0 < n) × (n ≤ sliceLimit) × (m ≤ inputRoom) ⌝ }
-    ensures { λ r. ⌜ r ≡ resetCode n m (now (body .entry)) ⌝ }
+    ensures { λ r. ⌜ r ≡ resetCode n m (was body) ⌝ }
 {
     if body[61] == 1 {
         return pin_code(n, m, body, 29);
@@ -41,7 +42,7 @@ fn reset_code(n: usize, m: usize, body: &[u8]) -> u16
 // Pin i of D's table, where D is in memory mode.
 fn address_code(n: usize, m: usize, body: &[u8], i: usize) -> u16
     requires { ⌜ (length (now body) ≡ 124) × (0 < n) × (n ≤ sliceLimit) × (m ≤ inputRoom) × (i < 6) ⌝ }
-    ensures { λ r. ⌜ r ≡ addressCode n m (now (body .entry)) i ⌝ }
+    ensures { λ r. ⌜ r ≡ addressCode n m (was body) i ⌝ }
 {
     if body[5] == 1 {
         return pin_code(n, m, body, 18 + i);
@@ -52,7 +53,7 @@ fn address_code(n: usize, m: usize, body: &[u8], i: usize) -> u16
 // What the main flip-flop of a letter takes.
 fn main_code(n: usize, m: usize, s: usize, body: &[u8], l: usize) -> u16
     requires { ⌜ (length (now body) ≡ 124) × (n ≤ sliceLimit) × (m ≤ inputRoom) × (s < n) × (l < 4) ⌝ }
-    ensures { λ r. ⌜ r ≡ codeOf (mainSource n m s (now (body .entry)) l) ⌝ }
+    ensures { λ r. ⌜ r ≡ codeOf (mainSource n m s (was body) l) ⌝ }
 {
     let choice = body[51 + l];
     if choice == 0 {
@@ -79,7 +80,7 @@ fn main_code(n: usize, m: usize, s: usize, body: &[u8], l: usize) -> u16
 // What the second flip-flop of a letter takes.
 fn second_code(n: usize, m: usize, s: usize, body: &[u8], l: usize) -> u16
     requires { ⌜ (length (now body) ≡ 124) × (n ≤ sliceLimit) × (m ≤ inputRoom) × (s < n) × (l < 4) ⌝ }
-    ensures { λ r. ⌜ r ≡ codeOf (secondSource n m s (now (body .entry)) l) ⌝ }
+    ensures { λ r. ⌜ r ≡ codeOf (secondSource n m s (was body) l) ⌝ }
 {
     if body[55 + l] == 0 {
         return own_code(s, 4 + l);
@@ -90,7 +91,7 @@ fn second_code(n: usize, m: usize, s: usize, body: &[u8], l: usize) -> u16
 // What bit b of the flip-flop byte takes.
 fn flop_code(n: usize, m: usize, s: usize, body: &[u8], b: usize) -> u16
     requires { ⌜ (length (now body) ≡ 124) × (n ≤ sliceLimit) × (m ≤ inputRoom) × (s < n) × (b < 8) ⌝ }
-    ensures { λ r. ⌜ r ≡ codeOf (flopSource n m s (now (body .entry)) b) ⌝ }
+    ensures { λ r. ⌜ r ≡ codeOf (flopSource n m s (was body) b) ⌝ }
 {
     if b < 4 {
         return main_code(n, m, s, body, b);
@@ -101,7 +102,7 @@ fn flop_code(n: usize, m: usize, s: usize, body: &[u8], b: usize) -> u16
 // A table's kind: 0 logic, 1 memory, 2 shift, 3 shift from the next letter.
 fn table_kind(body: &[u8], l: usize) -> u16
     requires { ⌜ (length (now body) ≡ 124) × (l < 4) ⌝ }
-    ensures { λ r. ⌜ r ≡ tableKind (now (body .entry)) l ⌝ }
+    ensures { λ r. ⌜ r ≡ tableKind (was body) l ⌝ }
 {
     let mode = body[2 + l];
     if mode == 0 {
@@ -119,7 +120,7 @@ fn table_kind(body: &[u8], l: usize) -> u16
 // A letter's bypass pin, where its table writes it.
 fn data_code(n: usize, m: usize, body: &[u8], l: usize) -> u16
     requires { ⌜ (length (now body) ≡ 124) × (0 < n) × (n ≤ sliceLimit) × (m ≤ inputRoom) × (l < 4) ⌝ }
-    ensures { λ r. ⌜ r ≡ dataCode n m (now (body .entry)) l ⌝ }
+    ensures { λ r. ⌜ r ≡ dataCode n m (was body) l ⌝ }
 {
     let kind = table_kind(body, l);
     if kind == 0 {
@@ -134,7 +135,7 @@ fn data_code(n: usize, m: usize, body: &[u8], l: usize) -> u16
 // Number k of a slice's edge.
 fn edge_number(n: usize, m: usize, s: usize, body: &[u8], k: usize) -> u16
     requires { ⌜ (length (now body) ≡ 124) × (n ≤ sliceLimit) × (m ≤ inputRoom) × (s < n) ⌝ }
-    ensures { λ r. ⌜ r ≡ edgeNumber n m s (now (body .entry)) k ⌝ }
+    ensures { λ r. ⌜ r ≡ edgeNumber n m s (was body) k ⌝ }
 {
     if k == 0 {
         return pin_code(n, m, body, 28);
@@ -166,7 +167,7 @@ fn edge_number(n: usize, m: usize, s: usize, body: &[u8], k: usize) -> u16
 // The numbers of the edge of slice s, whose record has that body, in a file of n slices and m outside inputs.
 pub fn edge_of(n: usize, m: usize, s: usize, body: &[u8]) -> [u16; EDGE_LENGTH]
     requires { ⌜ (length (now body) ≡ 124) × (n ≤ sliceLimit) × (m ≤ inputRoom) × (s < n) ⌝ }
-    ensures { λ r. ⌜ r ≡ edgeNumbers n m s (now (body .entry)) ⌝ }
+    ensures { λ r. ⌜ r ≡ edgeNumbers n m s (was body) ⌝ }
 {
     let mut edge = [0u16; EDGE_LENGTH];
     let mut k = 0;

@@ -2,6 +2,7 @@
 ghost use mathlib.Core.Path.{_≡_};
 ghost use Prim.Native.Nat.{_*_, _<_, _^_};
 ghost use lib.ListN.{length};
+ghost use Rattle.lent.specs.Lent.{was, left};
 ghost use Rattle.column.specs.File.{sliceBody, signalCount, gateAt};
 ghost use Rattle.column.specs.Check.{checkEnd, checkFile};
 ghost use Rattle.column.specs.Judge.{Judged};
@@ -40,7 +41,7 @@ pub enum Verdict {
 // The end record at a place of the file, and that nothing follows it.
 fn check_end(n: usize, m: usize, place: usize, s: &[u8]) -> Checked
     requires { ⌜ place < 2 ^ 32 ⌝ }
-    ensures { λ r. ⌜ r ≡ checkEnd n m place (now (s .entry)) ⌝ }
+    ensures { λ r. ⌜ r ≡ checkEnd n m place (was s) ⌝ }
 {
     if framing::is_end(s) {
         if HEAD < s.len() {
@@ -57,7 +58,7 @@ fn check_end(n: usize, m: usize, place: usize, s: &[u8]) -> Checked
 
 // Rules 1 to 8 on a whole file.
 pub fn check_file(file: &[u8]) -> Checked
-    ensures { λ r. ⌜ r ≡ checkFile (now (file .entry)) ⌝ }
+    ensures { λ r. ⌜ r ≡ checkFile (was file) ⌝ }
 {
     let h = framing::size_refusal(file);
     if h != 0 {
@@ -87,7 +88,7 @@ pub fn check_file(file: &[u8]) -> Checked
 // The body of slice s of a sound file.
 pub fn slice_body(file: &[u8], n: usize, m: usize, s: usize) -> &[u8]
     requires { ⌜ (checkFile (now file) ≡ Checked.Sound n m) × (s < n) ⌝ }
-    ensures { λ r. ⌜ now r ≡ sliceBody (now (file .entry)) s ⌝ }
+    ensures { λ r. ⌜ now r ≡ sliceBody (was file) s ⌝ }
 {
     let at = SIZE_RECORD + SLICE_RECORD * s + HEAD;
     &file[at..at + SLICE_BODY]
@@ -96,7 +97,7 @@ pub fn slice_body(file: &[u8], n: usize, m: usize, s: usize) -> &[u8]
 // The gate of signal x of a sound file.
 fn signal_gate(file: &[u8], n: usize, m: usize, x: usize) -> Gate
     requires { ⌜ (checkFile (now file) ≡ Checked.Sound n m) × (x < signalCount n) ⌝ }
-    ensures { λ r. ⌜ r ≡ gateAt (now (file .entry)) x ⌝ }
+    ensures { λ r. ⌜ r ≡ gateAt (was file) x ⌝ }
 {
     let s = x / 32;
     let body = slice_body(file, n, m, s);
@@ -106,7 +107,7 @@ fn signal_gate(file: &[u8], n: usize, m: usize, x: usize) -> Gate
 // Puts the netlist of a sound file into the gate table.
 fn lower(file: &[u8], n: usize, m: usize, table: &mut [u16])
     requires { ⌜ (checkFile (now file) ≡ Checked.Sound n m) × (length (now table) ≡ 224 * n) ⌝ }
-    ensures { λ _. ⌜ Lowered (now (file .entry)) n (now (table .exit)) ⌝ }
+    ensures { λ _. ⌜ Lowered (was file) n (left table) ⌝ }
 {
     let mut x: usize = 0;
     while x < 32 * n {
@@ -120,7 +121,7 @@ fn lower(file: &[u8], n: usize, m: usize, table: &mut [u16])
 fn compile(file: &[u8], n: usize, m: usize, table: &mut [u16], order: &mut [u16]) -> Sorted
     requires { ⌜ checkFile (now file) ≡ Checked.Sound n m ⌝ }
     requires { ⌜ (length (now table) ≡ 224 * n) × (length (now order) ≡ signalCount n) ⌝ }
-    ensures { λ r. ⌜ Compiled (now (file .entry)) n (now (table .exit)) (now (order .exit)) r ⌝ }
+    ensures { λ r. ⌜ Compiled (was file) n (left table) (left order) r ⌝ }
 {
     lower(file, n, m, table);
     toposort::order_or_loop(table, n, order)
@@ -130,7 +131,7 @@ fn compile(file: &[u8], n: usize, m: usize, table: &mut [u16], order: &mut [u16]
 fn load_sound(file: &[u8], n: usize, m: usize, table: &mut [u16], order: &mut [u16]) -> Verdict
     requires { ⌜ checkFile (now file) ≡ Checked.Sound n m ⌝ }
     requires { ⌜ (length (now table) ≡ tableLimit) × (length (now order) ≡ signalLimit) ⌝ }
-    ensures { λ r. ⌜ Loaded (now (file .entry)) (now (table .exit)) (now (order .exit)) r ⌝ }
+    ensures { λ r. ⌜ Loaded (was file) (left table) (left order) r ⌝ }
 {
     let numbers = SLICE_NUMBERS * n;
     let signals = 32 * n;
@@ -143,7 +144,7 @@ fn load_sound(file: &[u8], n: usize, m: usize, table: &mut [u16], order: &mut [u
 // Judges any bytes, and leaves what the calls on an accepted file run on: its netlist in the gate table, and an order.
 pub fn load(file: &[u8], table: &mut [u16], order: &mut [u16]) -> Verdict
     requires { ⌜ (length (now table) ≡ tableLimit) × (length (now order) ≡ signalLimit) ⌝ }
-    ensures { λ r. ⌜ Loaded (now (file .entry)) (now (table .exit)) (now (order .exit)) r ⌝ }
+    ensures { λ r. ⌜ Loaded (was file) (left table) (left order) r ⌝ }
 {
     match check_file(file) {
         Checked::Bad { number, place } => Verdict::Refused { number, place },
@@ -153,7 +154,7 @@ pub fn load(file: &[u8], table: &mut [u16], order: &mut [u16]) -> Verdict
 
 // Judges any bytes.
 pub fn judge(file: &[u8]) -> Verdict
-    ensures { λ r. ⌜ Judged (now (file .entry)) r ⌝ }
+    ensures { λ r. ⌜ Judged (was file) r ⌝ }
 {
     let mut table = [0u16; TABLE_LIMIT];
     let mut order = [0u16; SIGNAL_LIMIT];

@@ -1,5 +1,6 @@
 // The calls on a slice file and lent buffers that change it as it runs: edit an input, edit a table's contents.
 ghost use mathlib.Core.Path.{_≡_};
+ghost use Rattle.lent.specs.Lent.{was, left};
 ghost use Rattle.column.specs.Clock.{stateOf};
 ghost use Rattle.calls.specs.Calls.{Ready};
 ghost use Rattle.edits.specs.Edits.{InputEdited, TableEdited};
@@ -28,7 +29,7 @@ fn edit_input_accepted(
     byte: u8,
 ) -> Answer
     requires { ⌜ Ready (now file) n m (now net) (now order) ⌝ }
-    ensures { λ r. ⌜ InputEdited (now (file .entry)) (stateOf (now (contents .entry)) (now (flops .entry))) input byte (now (inputs .entry)) (now (inputs .exit)) (now (values .entry)) (now (values .exit)) r ⌝ }
+    ensures { λ r. ⌜ InputEdited (was file) (stateOf (was contents) (was flops)) input byte (was inputs) (left inputs) (was values) (left values) r ⌝ }
 {
     let bad = (m <= input) | (1 < byte);
     let number = buffers::edit_refusal(bad, file, n, m, contents, flops, inputs, values);
@@ -63,7 +64,7 @@ pub fn edit_input(
     input: usize,
     byte: u8,
 ) -> Answer
-    ensures { λ r. ⌜ InputEdited (now (file .entry)) (stateOf (now (contents .entry)) (now (flops .entry))) input byte (now (inputs .entry)) (now (inputs .exit)) (now (values .entry)) (now (values .exit)) r ⌝ }
+    ensures { λ r. ⌜ InputEdited (was file) (stateOf (was contents) (was flops)) input byte (was inputs) (left inputs) (was values) (left values) r ⌝ }
 {
     let mut net = [0u16; TABLE_LIMIT];
     let mut order = [0u16; SIGNAL_LIMIT];
@@ -101,7 +102,7 @@ fn edit_table_accepted(
     word: u64,
 ) -> Answer
     requires { ⌜ Ready (now file) n m (now net) (now order) ⌝ }
-    ensures { λ r. ⌜ TableEdited (now (file .entry)) (now (contents .entry)) (now (contents .exit)) (now (flops .entry)) table word (now (inputs .entry)) (now (values .entry)) (now (values .exit)) r ⌝ }
+    ensures { λ r. ⌜ TableEdited (was file) (was contents) (left contents) (was flops) table word (was inputs) (was values) (left values) r ⌝ }
 {
     let bad = buffers::bad_table(file, n, m, table, word);
     let number = buffers::edit_refusal(bad, file, n, m, contents, flops, inputs, values);
@@ -136,7 +137,7 @@ pub fn edit_table(
     table: usize,
     word: u64,
 ) -> Answer
-    ensures { λ r. ⌜ TableEdited (now (file .entry)) (now (contents .entry)) (now (contents .exit)) (now (flops .entry)) table word (now (inputs .entry)) (now (values .entry)) (now (values .exit)) r ⌝ }
+    ensures { λ r. ⌜ TableEdited (was file) (was contents) (left contents) (was flops) table word (was inputs) (was values) (left values) r ⌝ }
 {
     let mut net = [0u16; TABLE_LIMIT];
     let mut order = [0u16; SIGNAL_LIMIT];

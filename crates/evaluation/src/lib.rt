@@ -2,20 +2,21 @@
 ghost use mathlib.Core.Path.{_≡_};
 ghost use Prim.Native.Nat.{_+_, _*_, _/_, _%_, _^_, _≤_, _<_};
 ghost use lib.ListN.{length, getD};
+ghost use Rattle.lent.specs.Lent.{was};
 ghost use Rattle.netlist.specs.Rule.{env, bitAt, valueOf, ruleOf};
 ghost use Rattle.netlist.specs.Table.{signalLimit, sourceOf, gateOf};
 ghost use Rattle.evaluation.specs.Codes.{numberOn};
 
 // The low bit of byte `i`, 0 past the end.
 fn low_bit(bytes: &[u8], i: usize) -> u8
-    ensures { λ r. ⌜ r ≡ getD (now (bytes .entry)) i 0 % 2 ⌝ }
+    ensures { λ r. ⌜ r ≡ getD (was bytes) i 0 % 2 ⌝ }
 {
     if i < bytes.len() { bytes[i] % 2 } else { 0 }
 }
 
 // The bit on the source of a code.
 pub fn code_value(code: u16, inputs: &[u8], values: &[u8]) -> u8
-    ensures { λ r. ⌜ (r ≡ valueOf (now (inputs .entry)) (now (values .entry)) (sourceOf code)) × (r < 2) ⌝ }
+    ensures { λ r. ⌜ (r ≡ valueOf (was inputs) (was values) (sourceOf code)) × (r < 2) ⌝ }
 {
     if code < 256 {
         if code == 1 {
@@ -32,7 +33,7 @@ pub fn code_value(code: u16, inputs: &[u8], values: &[u8]) -> u8
 // The number on the k codes from place i, lowest first.
 pub fn number_on(codes: &[u16], i: usize, k: usize, inputs: &[u8], values: &[u8]) -> u8
     requires { ⌜ (i + k ≤ length (now codes)) × (k ≤ 8) ⌝ }
-    ensures { λ r. ⌜ (r ≡ numberOn (valueOf (now (inputs .entry)) (now (values .entry))) (now (codes .entry)) i k) × (r < 2 ^ k) ⌝ }
+    ensures { λ r. ⌜ (r ≡ numberOn (valueOf (was inputs) (was values)) (was codes) i k) × (r < 2 ^ k) ⌝ }
 {
     let mut number: u8 = 0;
     let mut j = k;
@@ -47,7 +48,7 @@ pub fn number_on(codes: &[u16], i: usize, k: usize, inputs: &[u8], values: &[u8]
 // Bit `k` of word `table`, 0 past the end.
 fn contents_bit(contents: &[u64], table: usize, k: u8) -> u8
     requires { ⌜ k < 64 ⌝ }
-    ensures { λ r. ⌜ r ≡ bitAt (getD (now (contents .entry)) table 0) k ⌝ }
+    ensures { λ r. ⌜ r ≡ bitAt (getD (was contents) table 0) k ⌝ }
 {
     if table < contents.len() {
         ((contents[table] >> k) % 2) as u8
@@ -58,7 +59,7 @@ fn contents_bit(contents: &[u64], table: usize, k: u8) -> u8
 
 // The stored bit of flip-flop `slot`, 0 past the end.
 fn stored_bit(flops: &[u8], slot: usize) -> u8
-    ensures { λ r. ⌜ r ≡ bitAt (getD (now (flops .entry)) (slot / 8) 0) (slot % 8) ⌝ }
+    ensures { λ r. ⌜ r ≡ bitAt (getD (was flops) (slot / 8) 0) (slot % 8) ⌝ }
 {
     let at = slot / 8;
     if at < flops.len() {
@@ -79,7 +80,7 @@ pub fn gate_value(
     values: &[u8],
 ) -> u8
     requires { ⌜ (32 * n ≤ signalLimit) × (length (now table) ≡ 224 * n) × (x < 32 * n) ⌝ }
-    ensures { λ r. ⌜ r ≡ ruleOf (env (now (contents .entry)) (now (flops .entry)) (now (inputs .entry))) (now (values .entry)) (gateOf (now (table .entry)) n x) ⌝ }
+    ensures { λ r. ⌜ r ≡ ruleOf (env (was contents) (was flops) (was inputs)) (was values) (gateOf (was table) n x) ⌝ }
 {
     let at = 7 * x;
     let head = table[at] as usize;

@@ -3,6 +3,7 @@ ghost use mathlib.Core.Path.{_≡_};
 ghost use mathlib.Core.Bool.{true};
 ghost use mathlib.Core.Logic.{_↔_};
 ghost use lib.ListN.{take};
+ghost use Rattle.lent.specs.Lent.{was};
 ghost use Rattle.slicefile.specs.Format.{headLength, bodyLength, endRecord};
 ghost use Rattle.framing.specs.Framing.{headerRefusal, badSize, sliceRefusal, sizeRefusal};
 use slicefile::END;
@@ -30,7 +31,7 @@ fn body_length(tag: usize) -> usize
 
 // Refusals 1 to 4 of the record that begins the slice of bytes, up to its body being whole; 0 where there is none.
 pub fn header_refusal(due: usize, s: &[u8]) -> usize
-    ensures { λ r. ⌜ r ≡ headerRefusal due (now (s .entry)) ⌝ }
+    ensures { λ r. ⌜ r ≡ headerRefusal due (was s) ⌝ }
 {
     if s.len() < HEAD {
         return 1;
@@ -56,7 +57,7 @@ pub fn header_refusal(due: usize, s: &[u8]) -> usize
 
 // Refusals 1 to 7 of the record of the slice of a number, which begins the slice of bytes.
 pub fn slice_refusal(n: usize, m: usize, number: usize, s: &[u8]) -> usize
-    ensures { λ r. ⌜ r ≡ sliceRefusal n m number (now (s .entry)) ⌝ }
+    ensures { λ r. ⌜ r ≡ sliceRefusal n m number (was s) ⌝ }
 {
     let h = header_refusal(SLICE_TAG, s);
     if h != 0 {
@@ -74,7 +75,7 @@ pub fn bad_size(n: usize, m: usize) -> bool
 
 // Refusals 1 to 5 of the size record, which begins the slice of bytes.
 pub fn size_refusal(s: &[u8]) -> usize
-    ensures { λ r. ⌜ r ≡ sizeRefusal (now (s .entry)) ⌝ }
+    ensures { λ r. ⌜ r ≡ sizeRefusal (was s) ⌝ }
 {
     let h = header_refusal(SIZE_TAG, s);
     if h != 0 {
@@ -90,7 +91,7 @@ pub fn size_refusal(s: &[u8]) -> usize
 
 // Whether the bytes begin with the end record.
 pub fn is_end(s: &[u8]) -> bool
-    ensures { λ r. ⌜ (r ≡ true) ↔ (take headLength (now (s .entry)) ≡ endRecord) ⌝ }
+    ensures { λ r. ⌜ (r ≡ true) ↔ (take headLength (was s) ≡ endRecord) ⌝ }
 {
     if s.len() < HEAD {
         return false;

@@ -4,6 +4,7 @@ ghost use mathlib.Core.List.{[], _∷_};
 ghost use Prim.Native.Nat.{_+_, _*_, _≤_, _<_};
 ghost use lib.ListN.{length};
 ghost use lib.Seq.{sets};
+ghost use Rattle.lent.specs.Lent.{was, left};
 ghost use Rattle.netlist.specs.Table.{signalLimit, inputRoom, codeOf, GateFits, storeGate};
 
 // How many signals a netlist may have.
@@ -67,7 +68,7 @@ fn store_numbers(
     p6: u16,
 )
     requires { ⌜ (head < 65536) × (7 * x + 7 ≤ length (now table)) ⌝ }
-    ensures { λ _. ⌜ now (table .exit) ≡ sets (now (table .entry)) (7 * x) (head ∷ p1 ∷ p2 ∷ p3 ∷ p4 ∷ p5 ∷ p6 ∷ []) ⌝ }
+    ensures { λ _. ⌜ left table ≡ sets (was table) (7 * x) (head ∷ p1 ∷ p2 ∷ p3 ∷ p4 ∷ p5 ∷ p6 ∷ []) ⌝ }
 {
     let at = 7 * x;
     table[at] = head as u16;
@@ -93,7 +94,7 @@ fn store_row(
 )
     requires { ⌜ (head < 65536) × (7 * x + 7 ≤ length (now table)) ⌝ }
     requires { ⌜ (codeOf p1 < 65536) × (codeOf p2 < 65536) × (codeOf p3 < 65536) × (codeOf p4 < 65536) × (codeOf p5 < 65536) × (codeOf p6 < 65536) ⌝ }
-    ensures { λ _. ⌜ now (table .exit) ≡ sets (now (table .entry)) (7 * x) (head ∷ codeOf p1 ∷ codeOf p2 ∷ codeOf p3 ∷ codeOf p4 ∷ codeOf p5 ∷ codeOf p6 ∷ []) ⌝ }
+    ensures { λ _. ⌜ left table ≡ sets (was table) (7 * x) (head ∷ codeOf p1 ∷ codeOf p2 ∷ codeOf p3 ∷ codeOf p4 ∷ codeOf p5 ∷ codeOf p6 ∷ []) ⌝ }
 {
     let a = source_code(p1);
     let b = source_code(p2);
@@ -108,7 +109,7 @@ fn store_row(
 pub fn store_gate(table: &mut [u16], n: usize, x: usize, gate: Gate)
     requires { ⌜ (32 * n ≤ signalLimit) × (x < 32 * n) × (length (now table) ≡ 224 * n) ⌝ }
     requires { ⌜ GateFits n inputRoom gate ⌝ }
-    ensures { λ _. ⌜ now (table .exit) ≡ storeGate (now (table .entry)) n x gate ⌝ }
+    ensures { λ _. ⌜ left table ≡ storeGate (was table) n x gate ⌝ }
 {
     let none = Source::Constant(false);
     match gate {

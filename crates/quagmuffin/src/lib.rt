@@ -2,6 +2,7 @@
 ghost use mathlib.Core.Path.{_≡_};
 ghost use Prim.Native.Nat.{_≤_};
 ghost use lib.ListN.{length};
+ghost use Rattle.lent.specs.Lent.{was, left};
 ghost use Rattle.slicefile.specs.Format.{sliceTag, bodyLength};
 ghost use Rattle.column.specs.Clock.{stateOf};
 ghost use Rattle.column.specs.Judge.{Judged};
@@ -51,7 +52,7 @@ fn pack_verdict(verdict: Verdict) -> u64
 // Judges any bytes.
 #[no_mangle]
 pub extern "C" fn qm_judge(file: &[u8]) -> u64
-    ensures { λ r. ⌜ Packed packVerdict (Judged (now (file .entry))) r ⌝ }
+    ensures { λ r. ⌜ Packed packVerdict (Judged (was file)) r ⌝ }
 {
     pack_verdict(column::judge(file))
 }
@@ -59,7 +60,7 @@ pub extern "C" fn qm_judge(file: &[u8]) -> u64
 // Fills 4n words of contents and n flip-flop bytes with the state at power-up.
 #[no_mangle]
 pub extern "C" fn qm_power_up(file: &[u8], contents: &mut [u64], flops: &mut [u8]) -> u64
-    ensures { λ r. ⌜ Answered (PoweredUp (now (file .entry)) (stateOf (now (contents .entry)) (now (flops .entry))) (stateOf (now (contents .exit)) (now (flops .exit)))) r ⌝ }
+    ensures { λ r. ⌜ Answered (PoweredUp (was file) (stateOf (was contents) (was flops)) (stateOf (left contents) (left flops))) r ⌝ }
 {
     pack_answer(calls::power_up(file, contents, flops))
 }
@@ -73,7 +74,7 @@ pub extern "C" fn qm_settle(
     inputs: &[u8],
     values: &mut [u8],
 ) -> u64
-    ensures { λ r. ⌜ Answered (SettleCalled (now (file .entry)) (stateOf (now (contents .entry)) (now (flops .entry))) (now (inputs .entry)) (now (values .entry)) (now (values .exit))) r ⌝ }
+    ensures { λ r. ⌜ Answered (SettleCalled (was file) (stateOf (was contents) (was flops)) (was inputs) (was values) (left values)) r ⌝ }
 {
     pack_answer(simulator::settle(file, contents, flops, inputs, values))
 }
@@ -87,7 +88,7 @@ pub extern "C" fn qm_clock(
     inputs: &[u8],
     values: &mut [u8],
 ) -> u64
-    ensures { λ r. ⌜ Answered (ClockCalled (now (file .entry)) (stateOf (now (contents .entry)) (now (flops .entry))) (stateOf (now (contents .exit)) (now (flops .exit))) (now (inputs .entry)) (now (values .entry)) (now (values .exit))) r ⌝ }
+    ensures { λ r. ⌜ Answered (ClockCalled (was file) (stateOf (was contents) (was flops)) (stateOf (left contents) (left flops)) (was inputs) (was values) (left values)) r ⌝ }
 {
     pack_answer(simulator::clock(file, contents, flops, inputs, values))
 }
@@ -103,7 +104,7 @@ pub extern "C" fn qm_edit_input(
     input: usize,
     byte: u8,
 ) -> u64
-    ensures { λ r. ⌜ Answered (InputEdited (now (file .entry)) (stateOf (now (contents .entry)) (now (flops .entry))) input byte (now (inputs .entry)) (now (inputs .exit)) (now (values .entry)) (now (values .exit))) r ⌝ }
+    ensures { λ r. ⌜ Answered (InputEdited (was file) (stateOf (was contents) (was flops)) input byte (was inputs) (left inputs) (was values) (left values)) r ⌝ }
 {
     pack_answer(edits::edit_input(file, contents, flops, inputs, values, input, byte))
 }
@@ -119,7 +120,7 @@ pub extern "C" fn qm_edit_table(
     table: usize,
     word: u64,
 ) -> u64
-    ensures { λ r. ⌜ Answered (TableEdited (now (file .entry)) (now (contents .entry)) (now (contents .exit)) (now (flops .entry)) table word (now (inputs .entry)) (now (values .entry)) (now (values .exit))) r ⌝ }
+    ensures { λ r. ⌜ Answered (TableEdited (was file) (was contents) (left contents) (was flops) table word (was inputs) (was values) (left values)) r ⌝ }
 {
     pack_answer(edits::edit_table(file, contents, flops, inputs, values, table, word))
 }
@@ -127,7 +128,7 @@ pub extern "C" fn qm_edit_table(
 // Reads a record, and fills a body with its fields.
 fn read_body(bytes: &[u8], n: usize, m: usize, body: &mut [u8]) -> Answer
     requires { ⌜ length (now body) ≡ bodyLength sliceTag ⌝ }
-    ensures { λ r. ⌜ (r ≡ answerOf (readRefusal (now (bytes .entry)) n m)) × (now (body .exit) ≡ unless (readRefusal (now (bytes .entry)) n m) (bodyBytes (readRecord (now (bytes .entry)) n m .slice)) (now (body .entry))) ⌝ }
+    ensures { λ r. ⌜ (r ≡ answerOf (readRefusal (was bytes) n m)) × (left body ≡ unless (readRefusal (was bytes) n m) (bodyBytes (readRecord (was bytes) n m .slice)) (was body)) ⌝ }
 {
     let reading = recordcalls::read_record(bytes, n, m);
     let answer = reading.answer;
@@ -141,7 +142,7 @@ fn read_body(bytes: &[u8], n: usize, m: usize, body: &mut [u8]) -> Answer
 // Reads one slice record, of 127 bytes, of a file of n slices and m outside inputs, into a body of 124 bytes.
 #[no_mangle]
 pub extern "C" fn qm_read_record(bytes: &[u8], n: usize, m: usize, body: &mut [u8]) -> u64
-    ensures { λ r. ⌜ RecordRead (now (bytes .entry)) n m (now (body .entry)) (now (body .exit)) r ⌝ }
+    ensures { λ r. ⌜ RecordRead (was bytes) n m (was body) (left body) r ⌝ }
 {
     if body.len() != SLICE_BODY {
         return 10;
@@ -152,7 +153,7 @@ pub extern "C" fn qm_read_record(bytes: &[u8], n: usize, m: usize, body: &mut [u
 // Writes the record with a body of 124 bytes into the first 127 bytes of a part of a file of n slices and m outside inputs.
 #[no_mangle]
 pub extern "C" fn qm_write_record(body: &[u8], n: usize, m: usize, part: &mut [u8]) -> u64
-    ensures { λ r. ⌜ RecordWritten (now (body .entry)) n m (now (part .entry)) (now (part .exit)) r ⌝ }
+    ensures { λ r. ⌜ RecordWritten (was body) n m (was part) (left part) r ⌝ }
 {
     if body.len() != SLICE_BODY {
         return 10;

@@ -1,6 +1,7 @@
 // The record calls: one slice record read from its bytes, and written into a lent part of a file.
 ghost use mathlib.Core.Path.{_≡_};
 ghost use lib.ListN.{length};
+ghost use Rattle.lent.specs.Lent.{was, left};
 ghost use Rattle.recordcalls.specs.Calls.{zeroRecord, recordRefusal, writeRefusal, answerOf, readRecord, written};
 use slicefile::Answer;
 use slicefile::HEAD;
@@ -39,7 +40,7 @@ fn zero_record() -> Record
 
 // Rules 2 to 7 on a record, any number below n being due; 0 where none is broken.
 fn record_refusal(n: usize, m: usize, s: &[u8]) -> usize
-    ensures { λ r. ⌜ r ≡ recordRefusal n m (now (s .entry)) ⌝ }
+    ensures { λ r. ⌜ r ≡ recordRefusal n m (was s) ⌝ }
 {
     let h = framing::header_refusal(SLICE_TAG, s);
     if h != 0 {
@@ -66,7 +67,7 @@ fn no_record(number: usize) -> Reading
 
 // Reads one slice record, of 127 bytes, of a file of n slices and m outside inputs.
 pub fn read_record(bytes: &[u8], n: usize, m: usize) -> Reading
-    ensures { λ r. ⌜ r ≡ readRecord (now (bytes .entry)) n m ⌝ }
+    ensures { λ r. ⌜ r ≡ readRecord (was bytes) n m ⌝ }
 {
     if bytes.len() != SLICE_RECORD {
         return no_record(10);
@@ -87,7 +88,7 @@ pub fn read_record(bytes: &[u8], n: usize, m: usize) -> Reading
 
 // Writes one slice record into the first 127 bytes of a part of a file of n slices and m outside inputs. A refusal writes nothing.
 pub fn write_record(slice: Record, n: usize, m: usize, part: &mut [u8]) -> Answer
-    ensures { λ r. ⌜ (r ≡ answerOf (writeRefusal slice n m (length (now (part .entry))))) × (now (part .exit) ≡ written slice n m (now (part .entry))) ⌝ }
+    ensures { λ r. ⌜ (r ≡ answerOf (writeRefusal slice n m (length (was part)))) × (left part ≡ written slice n m (was part)) ⌝ }
 {
     if part.len() < SLICE_RECORD {
         return Answer::Refused {

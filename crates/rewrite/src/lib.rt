@@ -3,6 +3,7 @@ ghost use mathlib.Core.Path.{_≡_};
 ghost use mathlib.Core.List.{_++_};
 ghost use Prim.Native.Nat.{_≤_};
 ghost use lib.ListN.{length, drop};
+ghost use Rattle.lent.specs.Lent.{was, left};
 ghost use Rattle.slicefile.specs.Format.{sliceTag, recordLength};
 ghost use Rattle.recordcalls.specs.Calls.{readRefusal};
 ghost use Rattle.column.specs.Check.{checkFile};
@@ -16,7 +17,7 @@ use slicefile::SLICE_RECORD;
 // Reads a slice record and writes it at the start of a part.
 fn put_slice(bytes: &[u8], n: usize, m: usize, part: &mut [u8])
     requires { ⌜ (readRefusal (now bytes) n m ≡ 0) × (recordLength sliceTag ≤ length (now part)) ⌝ }
-    ensures { λ _. ⌜ now (part .exit) ≡ now (bytes .entry) ++ drop (recordLength sliceTag) (now (part .entry)) ⌝ }
+    ensures { λ _. ⌜ left part ≡ was bytes ++ drop (recordLength sliceTag) (was part) ⌝ }
 {
     let reading = recordcalls::read_record(bytes, n, m);
     let slice = reading.slice;
@@ -26,7 +27,7 @@ fn put_slice(bytes: &[u8], n: usize, m: usize, part: &mut [u8])
 // Rewrites the records of a sound file into a buffer of its length.
 fn put_records(file: &[u8], n: usize, m: usize, out: &mut [u8])
     requires { ⌜ (checkFile (now file) ≡ Checked.Sound n m) × (length (now out) ≡ length (now file)) ⌝ }
-    ensures { λ _. ⌜ now (out .exit) ≡ now (file .entry) ⌝ }
+    ensures { λ _. ⌜ left out ≡ was file ⌝ }
 {
     slicerecord::put_bytes(out, 0, &[1, 2, 0, n as u8, m as u8]);
     let mut s: usize = 0;
@@ -41,7 +42,7 @@ fn put_records(file: &[u8], n: usize, m: usize, out: &mut [u8])
 
 // Rewrites a file into a lent buffer of its length. A refusal writes nothing.
 pub fn rewrite_file(file: &[u8], out: &mut [u8]) -> Answer
-    ensures { λ r. ⌜ (r ≡ rewritten (now (file .entry)) (now (out .entry))) × (now (out .exit) ≡ leftBy r (now (file .entry)) (now (out .entry))) ⌝ }
+    ensures { λ r. ⌜ (r ≡ rewritten (was file) (was out)) × (left out ≡ leftBy r (was file) (was out)) ⌝ }
 {
     match column::check_file(file) {
         Checked::Bad { number, place } => Answer::Refused { number, place },

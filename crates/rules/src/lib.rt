@@ -2,6 +2,7 @@
 ghost use mathlib.Core.Path.{_≡_};
 ghost use Prim.Native.Nat.{_<_};
 ghost use lib.ListN.{length};
+ghost use Rattle.lent.specs.Lent.{was};
 ghost use Rattle.rules.specs.Rules.{letterChoice, badChoice, letterCombination, badCombination, missing, badDriver, bodyRefusal};
 use slicefile::Decoded;
 use slicefile::PIN_COUNT;
@@ -9,7 +10,7 @@ use slicefile::PIN_COUNT;
 // A choice of a letter that is outside its list.
 fn letter_choice(body: &[u8], l: usize) -> bool
     requires { ⌜ (length (now body) ≡ 124) × (l < 4) ⌝ }
-    ensures { λ r. ⌜ r ≡ letterChoice (now (body .entry)) l ⌝ }
+    ensures { λ r. ⌜ r ≡ letterChoice (was body) l ⌝ }
 {
     (2 < body[2 + l])
         | (1 < body[6 + l])
@@ -22,7 +23,7 @@ fn letter_choice(body: &[u8], l: usize) -> bool
 // Rule 5 on a slice's body.
 fn bad_choice(body: &[u8]) -> bool
     requires { ⌜ length (now body) ≡ 124 ⌝ }
-    ensures { λ r. ⌜ r ≡ badChoice (now (body .entry)) ⌝ }
+    ensures { λ r. ⌜ r ≡ badChoice (was body) ⌝ }
 {
     let mut letters = false;
     let mut l = 0;
@@ -36,7 +37,7 @@ fn bad_choice(body: &[u8]) -> bool
 // A letter's share of rule 6.
 fn letter_combination(body: &[u8], l: usize) -> bool
     requires { ⌜ (length (now body) ≡ 124) × (l < 4) ⌝ }
-    ensures { λ r. ⌜ r ≡ letterCombination (now (body .entry)) l ⌝ }
+    ensures { λ r. ⌜ r ≡ letterCombination (was body) l ⌝ }
 {
     let mode = body[2 + l];
     let next = body[2 + (l + 1)];
@@ -50,7 +51,7 @@ fn letter_combination(body: &[u8], l: usize) -> bool
 // Rule 6 on the body of the slice of a number.
 fn bad_combination(number: usize, body: &[u8]) -> bool
     requires { ⌜ length (now body) ≡ 124 ⌝ }
-    ensures { λ r. ⌜ r ≡ badCombination number (now (body .entry)) ⌝ }
+    ensures { λ r. ⌜ r ≡ badCombination number (was body) ⌝ }
 {
     let mut letters = false;
     let mut memory = false;
@@ -77,7 +78,7 @@ fn is_missing(d: Decoded) -> bool
 // Rule 7 on a slice's body.
 fn bad_driver(n: usize, m: usize, body: &[u8]) -> bool
     requires { ⌜ length (now body) ≡ 124 ⌝ }
-    ensures { λ r. ⌜ r ≡ badDriver n m (now (body .entry)) ⌝ }
+    ensures { λ r. ⌜ r ≡ badDriver n m (was body) ⌝ }
 {
     let mut found = false;
     let mut p = 0;
@@ -92,7 +93,7 @@ fn bad_driver(n: usize, m: usize, body: &[u8]) -> bool
 // Rules 4 to 7 on the body of the slice of a number; 0 where none is broken.
 pub fn body_refusal(n: usize, m: usize, number: usize, body: &[u8]) -> usize
     requires { ⌜ length (now body) ≡ 124 ⌝ }
-    ensures { λ r. ⌜ r ≡ bodyRefusal n m number (now (body .entry)) ⌝ }
+    ensures { λ r. ⌜ r ≡ bodyRefusal n m number (was body) ⌝ }
 {
     let told = body[0] as usize;
     if told != number % 256 {

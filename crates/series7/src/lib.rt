@@ -2,6 +2,7 @@
 ghost use mathlib.Core.Path.{_≡_};
 ghost use Prim.Native.Nat.{_+_, _*_, _<_, _≤_};
 ghost use lib.ListN.{length};
+ghost use Rattle.lent.specs.Lent.{was};
 ghost use Rattle.slicefile.specs.Format.{carryStart, muxChoice, bypassPin};
 ghost use Rattle.sources.specs.Sources.{columnLimit, pinSource, own};
 ghost use Rattle.series7.specs.Signals.{muxSignal, pinsOf, o6Gate, o5Gate, mc31Gate, startSource, carryIn, carrySource, byBypass, wideGate, familyOf, familyGate, sliceGate};
@@ -33,7 +34,7 @@ pub enum Family {
 // Where a slice's carry chain starts.
 fn start_source(n: usize, m: usize, s: usize, body: &[u8]) -> Source
     requires { ⌜ (length (now body) ≡ 124) × (n ≤ columnLimit) × (s < columnLimit) ⌝ }
-    ensures { λ r. ⌜ r ≡ startSource (carryStart (now (body .entry))) s (pinSource n m (now (body .entry)) (bypassPin 0)) ⌝ }
+    ensures { λ r. ⌜ r ≡ startSource (carryStart (was body)) s (pinSource n m (was body) (bypassPin 0)) ⌝ }
 {
     let choice = body[46];
     if choice == 0 {
@@ -54,7 +55,7 @@ fn start_source(n: usize, m: usize, s: usize, body: &[u8]) -> Source
 // The carry coming into a letter.
 fn carry_in(n: usize, m: usize, s: usize, body: &[u8], l: usize) -> Source
     requires { ⌜ (length (now body) ≡ 124) × (n ≤ columnLimit) × (s < columnLimit) × (l < 4) ⌝ }
-    ensures { λ r. ⌜ r ≡ carryIn n m s (now (body .entry)) l ⌝ }
+    ensures { λ r. ⌜ r ≡ carryIn n m s (was body) l ⌝ }
 {
     if l == 0 {
         return start_source(n, m, s, body);
@@ -65,7 +66,7 @@ fn carry_in(n: usize, m: usize, s: usize, body: &[u8], l: usize) -> Source
 // A letter's carry data.
 fn carry_source(n: usize, m: usize, s: usize, body: &[u8], l: usize) -> Source
     requires { ⌜ (length (now body) ≡ 124) × (n ≤ columnLimit) × (s < columnLimit) × (l < 4) ⌝ }
-    ensures { λ r. ⌜ r ≡ carrySource n m s (now (body .entry)) l ⌝ }
+    ensures { λ r. ⌜ r ≡ carrySource n m s (was body) l ⌝ }
 {
     if body[42 + l] == 0 {
         return sources::own(s, 4 + l);
@@ -76,7 +77,7 @@ fn carry_source(n: usize, m: usize, s: usize, body: &[u8], l: usize) -> Source
 // The six pins of a letter's table.
 fn table_pins(n: usize, m: usize, body: &[u8], l: usize) -> Pins
     requires { ⌜ (length (now body) ≡ 124) × (n ≤ columnLimit) × (l < 4) ⌝ }
-    ensures { λ r. ⌜ r ≡ pinsOf n m (now (body .entry)) l ⌝ }
+    ensures { λ r. ⌜ r ≡ pinsOf n m (was body) l ⌝ }
 {
     let p1 = sources::pin_source(n, m, body, 6 * l);
     let p2 = sources::pin_source(n, m, body, 6 * l + 1);
@@ -168,7 +169,7 @@ fn mc31_gate(shift: bool, table: usize) -> Gate
 // A multiplexer by a letter's bypass pin.
 fn by_bypass(n: usize, m: usize, s: usize, body: &[u8], l: usize, one: usize, other: usize) -> Gate
     requires { ⌜ (length (now body) ≡ 124) × (n ≤ columnLimit) × (s < columnLimit) × (l < 4) × (one < 32) × (other < 32) ⌝ }
-    ensures { λ r. ⌜ r ≡ byBypass n m s (now (body .entry)) l one other ⌝ }
+    ensures { λ r. ⌜ r ≡ byBypass n m s (was body) l one other ⌝ }
 {
     let select = sources::pin_source(n, m, body, 24 + l);
     let a = sources::own(s, one);
@@ -183,7 +184,7 @@ fn by_bypass(n: usize, m: usize, s: usize, body: &[u8], l: usize, one: usize, ot
 // Signals 16 to 19.
 fn wide_gate(n: usize, m: usize, s: usize, body: &[u8], i: usize) -> Gate
     requires { ⌜ (length (now body) ≡ 124) × (n ≤ columnLimit) × (s < columnLimit) ⌝ }
-    ensures { λ r. ⌜ r ≡ wideGate n m s (now (body .entry)) i ⌝ }
+    ensures { λ r. ⌜ r ≡ wideGate n m s (was body) i ⌝ }
 {
     if i == 0 {
         return by_bypass(n, m, s, body, 0, 0, 1);
@@ -228,7 +229,7 @@ fn family_of(k: usize) -> Family
 // The gate of a letter's signal in a family.
 fn family_gate(n: usize, m: usize, s: usize, body: &[u8], f: Family, l: usize) -> Gate
     requires { ⌜ (length (now body) ≡ 124) × (n ≤ columnLimit) × (s < columnLimit) × (l < 4) ⌝ }
-    ensures { λ r. ⌜ r ≡ familyGate n m s (now (body .entry)) f l ⌝ }
+    ensures { λ r. ⌜ r ≡ familyGate n m s (was body) f l ⌝ }
 {
     match f {
         Family::O6 => o6_gate(body[2 + l] == 2, 4 * s + l, table_pins(n, m, body, l)),
@@ -244,7 +245,7 @@ fn family_gate(n: usize, m: usize, s: usize, body: &[u8], f: Family, l: usize) -
 
 fn carry_gate(n: usize, m: usize, s: usize, body: &[u8], l: usize) -> Gate
     requires { ⌜ (length (now body) ≡ 124) × (n ≤ columnLimit) × (s < columnLimit) × (l < 4) ⌝ }
-    ensures { λ r. ⌜ r ≡ familyGate n m s (now (body .entry)) Family.Carry l ⌝ }
+    ensures { λ r. ⌜ r ≡ familyGate n m s (was body) Family.Carry l ⌝ }
 {
     let select = sources::own(s, l);
     let one = carry_in(n, m, s, body, l);
@@ -254,7 +255,7 @@ fn carry_gate(n: usize, m: usize, s: usize, body: &[u8], l: usize) -> Gate
 
 fn sum_gate(n: usize, m: usize, s: usize, body: &[u8], l: usize) -> Gate
     requires { ⌜ (length (now body) ≡ 124) × (n ≤ columnLimit) × (s < columnLimit) × (l < 4) ⌝ }
-    ensures { λ r. ⌜ r ≡ familyGate n m s (now (body .entry)) Family.Sum l ⌝ }
+    ensures { λ r. ⌜ r ≡ familyGate n m s (was body) Family.Sum l ⌝ }
 {
     let a = sources::own(s, l);
     let b = carry_in(n, m, s, body, l);
@@ -282,7 +283,7 @@ fn mux_signal(l: usize, choice: u8) -> usize
 
 fn mux_gate(s: usize, body: &[u8], l: usize) -> Gate
     requires { ⌜ (length (now body) ≡ 124) × (s < columnLimit) × (l < 4) ⌝ }
-    ensures { λ r. ⌜ r ≡ Gate.Same (own s (muxSignal l (muxChoice (now (body .entry)) l))) ⌝ }
+    ensures { λ r. ⌜ r ≡ Gate.Same (own s (muxSignal l (muxChoice (was body) l))) ⌝ }
 {
     let k = mux_signal(l, body[47 + l]);
     Gate::Same(sources::own(s, k))
@@ -291,7 +292,7 @@ fn mux_gate(s: usize, body: &[u8], l: usize) -> Gate
 // The gate of signal k of slice s, whose record has that body, in a file of n slices and m outside inputs.
 pub fn gate_at(n: usize, m: usize, s: usize, body: &[u8], k: usize) -> Gate
     requires { ⌜ (length (now body) ≡ 124) × (n ≤ columnLimit) × (s < n) × (k < 32) ⌝ }
-    ensures { λ r. ⌜ r ≡ sliceGate n m s (now (body .entry)) k ⌝ }
+    ensures { λ r. ⌜ r ≡ sliceGate n m s (was body) k ⌝ }
 {
     family_gate(n, m, s, body, family_of(k), k % 4)
 }

@@ -2,6 +2,7 @@
 ghost use mathlib.Core.Path.{_≡_};
 ghost use Prim.Native.Nat.{_*_};
 ghost use lib.ListN.{length};
+ghost use Rattle.lent.specs.Lent.{was, left};
 ghost use Rattle.column.specs.Check.{checkFile};
 ghost use Rattle.column.specs.Clock.{stateOf, clocked};
 ghost use Rattle.calls.specs.Calls.{Ready};
@@ -25,7 +26,7 @@ fn settle_accepted(
     values: &mut [u8],
 ) -> Answer
     requires { ⌜ Ready (now file) n m (now net) (now order) ⌝ }
-    ensures { λ r. ⌜ SettleCalled (now (file .entry)) (stateOf (now (contents .entry)) (now (flops .entry))) (now (inputs .entry)) (now (values .entry)) (now (values .exit)) r ⌝ }
+    ensures { λ r. ⌜ SettleCalled (was file) (stateOf (was contents) (was flops)) (was inputs) (was values) (left values) r ⌝ }
 {
     let own = buffers::settle_refusal(file, n, m, contents, flops, inputs, values);
     if own != 0 {
@@ -46,7 +47,7 @@ pub fn settle(
     inputs: &[u8],
     values: &mut [u8],
 ) -> Answer
-    ensures { λ r. ⌜ SettleCalled (now (file .entry)) (stateOf (now (contents .entry)) (now (flops .entry))) (now (inputs .entry)) (now (values .entry)) (now (values .exit)) r ⌝ }
+    ensures { λ r. ⌜ SettleCalled (was file) (stateOf (was contents) (was flops)) (was inputs) (was values) (left values) r ⌝ }
 {
     let mut net = [0u16; TABLE_LIMIT];
     let mut order = [0u16; SIGNAL_LIMIT];
@@ -68,7 +69,7 @@ fn move_state(
     flops: &mut [u8],
 )
     requires { ⌜ (checkFile (now file) ≡ Checked.Sound n m) × (length (now contents) ≡ 4 * n) × (length (now flops) ≡ n) ⌝ }
-    ensures { λ _. ⌜ stateOf (now (contents .exit)) (now (flops .exit)) ≡ clocked (now (file .entry)) (stateOf (now (contents .entry)) (now (flops .entry))) (now (inputs .entry)) (now (values .entry)) ⌝ }
+    ensures { λ _. ⌜ stateOf (left contents) (left flops) ≡ clocked (was file) (stateOf (was contents) (was flops)) (was inputs) (was values) ⌝ }
 {
     let mut s = 0;
     while s < n {
@@ -92,7 +93,7 @@ fn clock_accepted(
     values: &mut [u8],
 ) -> Answer
     requires { ⌜ Ready (now file) n m (now net) (now order) ⌝ }
-    ensures { λ r. ⌜ ClockCalled (now (file .entry)) (stateOf (now (contents .entry)) (now (flops .entry))) (stateOf (now (contents .exit)) (now (flops .exit))) (now (inputs .entry)) (now (values .entry)) (now (values .exit)) r ⌝ }
+    ensures { λ r. ⌜ ClockCalled (was file) (stateOf (was contents) (was flops)) (stateOf (left contents) (left flops)) (was inputs) (was values) (left values) r ⌝ }
 {
     let number = buffers::settle_refusal(file, n, m, contents, flops, inputs, values);
     if number != 0 {
@@ -111,7 +112,7 @@ pub fn clock(
     inputs: &[u8],
     values: &mut [u8],
 ) -> Answer
-    ensures { λ r. ⌜ ClockCalled (now (file .entry)) (stateOf (now (contents .entry)) (now (flops .entry))) (stateOf (now (contents .exit)) (now (flops .exit))) (now (inputs .entry)) (now (values .entry)) (now (values .exit)) r ⌝ }
+    ensures { λ r. ⌜ ClockCalled (was file) (stateOf (was contents) (was flops)) (stateOf (left contents) (left flops)) (was inputs) (was values) (left values) r ⌝ }
 {
     let mut net = [0u16; TABLE_LIMIT];
     let mut order = [0u16; SIGNAL_LIMIT];

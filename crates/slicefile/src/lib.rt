@@ -2,6 +2,7 @@
 ghost use mathlib.Core.Path.{_≡_};
 ghost use Prim.Native.Nat.{_+_, _<_};
 ghost use lib.ListN.{length};
+ghost use Rattle.lent.specs.Lent.{was};
 ghost use Rattle.slicefile.specs.Format.{pairAt, contentsWord};
 ghost use Rattle.slicefile.specs.Driver.{driverOf};
 
@@ -96,7 +97,7 @@ fn wide(x: u8) -> u64
 // A letter's contents word in a slice's body, low byte first.
 pub fn contents_word(body: &[u8], l: usize) -> u64
     requires { ⌜ (length (now body) ≡ 124) × (l < 4) ⌝ }
-    ensures { λ r. ⌜ r ≡ contentsWord (now (body .entry)) l ⌝ }
+    ensures { λ r. ⌜ r ≡ contentsWord (was body) l ⌝ }
 {
     let mut w: u64 = 0;
     let mut i: usize = 8;
@@ -116,7 +117,7 @@ fn wide16(x: u8) -> u16
 // A number of two bytes, low byte first.
 pub fn pair_at(s: &[u8], i: usize) -> u16
     requires { ⌜ i + 1 < length (now s) ⌝ }
-    ensures { λ r. ⌜ r ≡ pairAt (now (s .entry)) i ⌝ }
+    ensures { λ r. ⌜ r ≡ pairAt (was s) i ⌝ }
 {
     wide16(s[i]) + 256 * wide16(s[i + 1])
 }

@@ -3,6 +3,7 @@ ghost use mathlib.Core.Path.{_≡_};
 ghost use Prim.Native.Nat.{_+_, _*_, _≤_};
 ghost use lib.ListN.{length};
 ghost use lib.Seq.{sets};
+ghost use Rattle.lent.specs.Lent.{was, left};
 ghost use Rattle.slicefile.specs.Format.{pinCount, byteAt, pinCode};
 ghost use Rattle.slicefile.specs.Lists.{tabulate};
 ghost use Rattle.slicerecord.specs.Record.{letters, recordOf, bytesOf, allBytes, recordBytes};
@@ -36,7 +37,7 @@ pub struct Record {
 // Four bytes of a body, a letter's each.
 fn letter_bytes(body: &[u8], at: usize) -> [u8; 4]
     requires { ⌜ at + 4 ≤ length (now body) ⌝ }
-    ensures { λ r. ⌜ r ≡ letters (λ l. byteAt (now (body .entry)) (at + l)) ⌝ }
+    ensures { λ r. ⌜ r ≡ letters (λ l. byteAt (was body) (at + l)) ⌝ }
 {
     [body[at], body[at + 1], body[at + 2], body[at + 3]]
 }
@@ -44,7 +45,7 @@ fn letter_bytes(body: &[u8], at: usize) -> [u8; 4]
 // The driver codes of a body's pins.
 fn pin_codes(body: &[u8]) -> [u16; PIN_COUNT]
     requires { ⌜ length (now body) ≡ 124 ⌝ }
-    ensures { λ r. ⌜ r ≡ tabulate 0 pinCount (pinCode (now (body .entry))) ⌝ }
+    ensures { λ r. ⌜ r ≡ tabulate 0 pinCount (pinCode (was body)) ⌝ }
 {
     let mut codes = [0u16; PIN_COUNT];
     let mut p = 0;
@@ -58,7 +59,7 @@ fn pin_codes(body: &[u8]) -> [u16; PIN_COUNT]
 // The record that a slice's body holds.
 pub fn decode(body: &[u8]) -> Record
     requires { ⌜ length (now body) ≡ 124 ⌝ }
-    ensures { λ r. ⌜ r ≡ recordOf (now (body .entry)) ⌝ }
+    ensures { λ r. ⌜ r ≡ recordOf (was body) ⌝ }
 {
     let contents = [
         slicefile::contents_word(body, 0),
@@ -94,7 +95,7 @@ pub fn decode(body: &[u8]) -> Record
 // Stores bytes from an offset on.
 pub fn put_bytes(out: &mut [u8], at: usize, src: &[u8])
     requires { ⌜ at + length (now src) ≤ length (now out) ⌝ }
-    ensures { λ r. ⌜ now (out .exit) ≡ sets (now (out .entry)) at (now (src .entry)) ⌝ }
+    ensures { λ r. ⌜ left out ≡ sets (was out) at (was src) ⌝ }
 {
     let mut i = 0;
     while i < src.len() {
@@ -106,7 +107,7 @@ pub fn put_bytes(out: &mut [u8], at: usize, src: &[u8])
 // Stores the low k bytes of a number from an offset on, low byte first.
 fn put_number(out: &mut [u8], at: usize, k: usize, w: u64)
     requires { ⌜ at + k ≤ length (now out) ⌝ }
-    ensures { λ r. ⌜ now (out .exit) ≡ sets (now (out .entry)) at (bytesOf k w) ⌝ }
+    ensures { λ r. ⌜ left out ≡ sets (was out) at (bytesOf k w) ⌝ }
 {
     let mut rest = w;
     let mut i = 0;
@@ -120,7 +121,7 @@ fn put_number(out: &mut [u8], at: usize, k: usize, w: u64)
 // Stores words of contents, 8 bytes each.
 fn put_words(out: &mut [u8], at: usize, words: &[u64])
     requires { ⌜ at + 8 * length (now words) ≤ length (now out) ⌝ }
-    ensures { λ r. ⌜ now (out .exit) ≡ sets (now (out .entry)) at (allBytes 8 (now (words .entry))) ⌝ }
+    ensures { λ r. ⌜ left out ≡ sets (was out) at (allBytes 8 (was words)) ⌝ }
 {
     let mut i = 0;
     while i < words.len() {
@@ -132,7 +133,7 @@ fn put_words(out: &mut [u8], at: usize, words: &[u64])
 // Stores driver codes, 2 bytes each.
 fn put_codes(out: &mut [u8], at: usize, codes: &[u16])
     requires { ⌜ at + 2 * length (now codes) ≤ length (now out) ⌝ }
-    ensures { λ r. ⌜ now (out .exit) ≡ sets (now (out .entry)) at (allBytes 2 (now (codes .entry))) ⌝ }
+    ensures { λ r. ⌜ left out ≡ sets (was out) at (allBytes 2 (was codes)) ⌝ }
 {
     let mut i = 0;
     while i < codes.len() {

@@ -2,6 +2,7 @@
 ghost use mathlib.Core.Path.{_≡_};
 ghost use Prim.Native.Nat.{_+_, _*_, _<_, _≤_};
 ghost use lib.ListN.{length};
+ghost use Rattle.lent.specs.Lent.{was};
 ghost use Rattle.slicefile.specs.Driver.{Within, DecodedWithin};
 ghost use Rattle.sources.specs.Sources.{columnLimit, outputSignal, driverSource, decodedSource, pinSource, own, wideSignal};
 use netlist::Source;
@@ -55,7 +56,7 @@ fn decoded_source(d: Decoded) -> Source
 // Where pin p of a slice takes its bit from.
 pub fn pin_source(n: usize, m: usize, body: &[u8], p: usize) -> Source
     requires { ⌜ (length (now body) ≡ 124) × (p < 31) × (n ≤ columnLimit) ⌝ }
-    ensures { λ r. ⌜ r ≡ pinSource n m (now (body .entry)) p ⌝ }
+    ensures { λ r. ⌜ r ≡ pinSource n m (was body) p ⌝ }
 {
     decoded_source(decode_driver(pair_at(body, 62 + 2 * p), n, m))
 }

@@ -3,6 +3,7 @@ ghost use mathlib.Core.Path.{_≡_};
 ghost use Prim.Native.Nat.{_+_, _*_, _-_, _≤_, _<_};
 ghost use mathlib.Core.Logic.{_⊎_};
 ghost use lib.ListN.{length, getD, set};
+ghost use Rattle.lent.specs.Lent.{was, left};
 ghost use Rattle.netlist.specs.Graph.{WellFormed};
 ghost use Rattle.netlist.specs.Settle.{readsIn};
 ghost use Rattle.netlist.specs.Table.{signalLimit, sourceOf, gateOf};
@@ -67,7 +68,7 @@ fn place_count(n: usize, head: usize) -> usize
 // What signal x reads at place i, from its sixth source down to its first.
 fn read_at(table: &[u16], n: usize, x: usize, i: usize) -> Read
     requires { ⌜ (32 * n ≤ signalLimit) × (length (now table) ≡ 224 * n) × (x < 32 * n) × (i < 6) ⌝ }
-    ensures { λ r. ⌜ r ≡ readAt (gateOf (now (table .entry)) n) x i ⌝ }
+    ensures { λ r. ⌜ r ≡ readAt (gateOf (was table) n) x i ⌝ }
 {
     let at = 7 * x;
     let head = wide16(table[at]);
@@ -82,7 +83,7 @@ fn read_at(table: &[u16], n: usize, x: usize, i: usize) -> Read
 // The mark of signal x when it is opened, past the places that its gate doesn't have.
 fn first_mark(table: &[u16], n: usize, x: usize) -> u8
     requires { ⌜ (32 * n ≤ signalLimit) × (length (now table) ≡ 224 * n) × (x < 32 * n) ⌝ }
-    ensures { λ r. ⌜ r ≡ firstMark n (getD (now (table .entry)) (7 * x) 0) ⌝ }
+    ensures { λ r. ⌜ r ≡ firstMark n (getD (was table) (7 * x) 0) ⌝ }
 {
     let head = wide16(table[7 * x]);
     let places = place_count(n, head);
@@ -126,7 +127,7 @@ fn next_turn(
 ) -> Turn
     requires { ⌜ WellFormed (readsIn (gateOf (now table) n)) (32 * n) × (length (now table) ≡ 224 * n) ⌝ }
     requires { ⌜ TopReady (32 * n) (now marks) (now pos) (now stack) (now heads) len count top ⌝ }
-    ensures { λ r. ⌜ Wants (gateOf (now (table .entry)) n) (32 * n) (now (marks .entry)) (now (pos .entry)) (now (stack .entry)) (now (heads .entry)) len count top r ⌝ }
+    ensures { λ r. ⌜ Wants (gateOf (was table) n) (32 * n) (was marks) (was pos) (was stack) (was heads) len count top r ⌝ }
 {
     let last = count - 1;
     let head = wide16(heads[last]);
@@ -175,7 +176,7 @@ fn open_signal(
     requires { ⌜ Scanning (gateOf (now table) n) (32 * n) (now marks) (now pos) (now stack) (now heads) (now path) (now order) p ⌝ }
     requires { ⌜ (p .next < 32 * n) × (y < 32 * n) × (getD (now marks) y 0 ≡ 0) × (length (now table) ≡ 224 * n) ⌝ }
     requires { ⌜ Above (gateOf (now table) n) (now stack) (p .len) y ⌝ }
-    ensures { λ r. ⌜ Scanned (gateOf (now (table .entry)) n) (32 * n) (now (marks .entry)) p (now (marks .exit)) (now (pos .exit)) (now (stack .exit)) (now (heads .exit)) (now (path .exit)) (now (order .exit)) r ⌝ }
+    ensures { λ r. ⌜ Scanned (gateOf (was table) n) (32 * n) (was marks) p (left marks) (left pos) (left stack) (left heads) (left path) (left order) r ⌝ }
 {
     let len = p.len;
     let count = p.count;
@@ -203,7 +204,7 @@ fn close_top(
     count: usize,
 ) -> Scan
     requires { ⌜ (top < length (now marks)) × (top < signalLimit) × (p .done < length (now order)) × (p .done < signalLimit) × (0 < p .depth) ⌝ }
-    ensures { λ _. ⌜ (now (marks .exit) ≡ set (now (marks .entry)) top 8) × (now (order .exit) ≡ set (now (order .entry)) (p .done) top) ⌝ }
+    ensures { λ _. ⌜ (left marks ≡ set (was marks) top 8) × (left order ≡ set (was order) (p .done) top) ⌝ }
     ensures { λ r. ⌜ r ≡ record { next = p .next; depth = p .depth - 1; len = len; count = count; done = p .done + 1; best = p .best } ⌝ }
 {
     let depth = p.depth;
@@ -242,7 +243,7 @@ fn take_turn(
 ) -> Scan
     requires { ⌜ Scanning (gateOf (now table) n) (32 * n) (now marks) (now pos) (now stack) (now heads) (now path) (now order) p ⌝ }
     requires { ⌜ (p .next < 32 * n) × (0 < p .depth) × (getD (now path) (p .depth - 1) 0 ≡ top) × (length (now table) ≡ 224 * n) ⌝ }
-    ensures { λ r. ⌜ Scanned (gateOf (now (table .entry)) n) (32 * n) (now (marks .entry)) p (now (marks .exit)) (now (pos .exit)) (now (stack .exit)) (now (heads .exit)) (now (path .exit)) (now (order .exit)) r ⌝ }
+    ensures { λ r. ⌜ Scanned (gateOf (was table) n) (32 * n) (was marks) p (left marks) (left pos) (left stack) (left heads) (left path) (left order) r ⌝ }
 {
     let len = p.len;
     let count = p.count;
@@ -282,7 +283,7 @@ fn scan_step(
 ) -> Scan
     requires { ⌜ Scanning (gateOf (now table) n) (32 * n) (now marks) (now pos) (now stack) (now heads) (now path) (now order) p ⌝ }
     requires { ⌜ (p .next < 32 * n) × (length (now table) ≡ 224 * n) ⌝ }
-    ensures { λ r. ⌜ Scanned (gateOf (now (table .entry)) n) (32 * n) (now (marks .entry)) p (now (marks .exit)) (now (pos .exit)) (now (stack .exit)) (now (heads .exit)) (now (path .exit)) (now (order .exit)) r ⌝ }
+    ensures { λ r. ⌜ Scanned (gateOf (was table) n) (32 * n) (was marks) p (left marks) (left pos) (left stack) (left heads) (left path) (left order) r ⌝ }
 {
     let next = p.next;
     let depth = p.depth;
@@ -312,7 +313,7 @@ fn scan_all(
 ) -> usize
     requires { ⌜ Components (gateOf (now table) n) (32 * n) (now marks) (now pos) (now stack) (now heads) (now path) (now order) 0 0 0 0 0 (32 * n) ⌝ }
     requires { ⌜ length (now table) ≡ 224 * n ⌝ }
-    ensures { λ r. ⌜ Least (gateOf (now (table .entry)) n) (32 * n) (now (order .exit)) r ⌝ }
+    ensures { λ r. ⌜ Least (gateOf (was table) n) (32 * n) (left order) r ⌝ }
 {
     let size = 32 * n;
     let mut p = Scan {
@@ -333,7 +334,7 @@ fn scan_all(
 pub fn order_or_loop(table: &[u16], n: usize, order: &mut [u16]) -> Sorted
     requires { ⌜ (32 * n ≤ signalLimit) × (length (now table) ≡ 224 * n) × (length (now order) ≡ 32 * n) ⌝ }
     requires { ⌜ WellFormed (readsIn (gateOf (now table) n)) (32 * n) ⌝ }
-    ensures { λ r. ⌜ OrderOrLoop (gateOf (now (table .entry)) n) (32 * n) (now (order .exit)) r ⌝ }
+    ensures { λ r. ⌜ OrderOrLoop (gateOf (was table) n) (32 * n) (left order) r ⌝ }
 {
     let mut marks = [0u8; SIGNAL_LIMIT];
     let mut pos = [0u16; SIGNAL_LIMIT];

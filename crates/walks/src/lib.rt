@@ -3,6 +3,7 @@ ghost use mathlib.Core.Path.{_≡_};
 ghost use mathlib.Core.Bool.{_||_};
 ghost use Prim.Native.Nat.{_+_, _*_, _≤_, _<_};
 ghost use lib.ListN.{length, take};
+ghost use Rattle.lent.specs.Lent.{was, left};
 ghost use Rattle.netlist.specs.Rule.{env, readsOf};
 ghost use Rattle.netlist.specs.Graph.{Ordered};
 ghost use Rattle.netlist.specs.Settle.{readsIn, Settled, isMarked, anyMarked, Edited};
@@ -21,7 +22,7 @@ fn settle_along(
 )
     requires { ⌜ (32 * n ≤ signalLimit) × (length (now table) ≡ 224 * n) × (length (now values) ≡ 32 * n) ⌝ }
     requires { ⌜ Ordered (readsIn (gateOf (now table) n)) (32 * n) (now order) ⌝ }
-    ensures { λ _. ⌜ Settled (gateOf (now (table .entry)) n) (32 * n) (env (now (contents .entry)) (now (flops .entry)) (now (inputs .entry))) (now (values .exit)) ⌝ }
+    ensures { λ _. ⌜ Settled (gateOf (was table) n) (32 * n) (env (was contents) (was flops) (was inputs)) (left values) ⌝ }
 {
     let mut i = 0;
     while i < order.len() {
@@ -44,7 +45,7 @@ pub fn settle_by(
 )
     requires { ⌜ (32 * n ≤ signalLimit) × (224 * n ≤ length (now net)) × (32 * n ≤ length (now order)) × (length (now values) ≡ 32 * n) ⌝ }
     requires { ⌜ Ordered (readsIn (gateOf (take (224 * n) (now net)) n)) (32 * n) (take (32 * n) (now order)) ⌝ }
-    ensures { λ _. ⌜ Settled (gateOf (take (224 * n) (now (net .entry))) n) (32 * n) (env (now (contents .entry)) (now (flops .entry)) (now (inputs .entry))) (now (values .exit)) ⌝ }
+    ensures { λ _. ⌜ Settled (gateOf (take (224 * n) (was net)) n) (32 * n) (env (was contents) (was flops) (was inputs)) (left values) ⌝ }
 {
     let numbers = 224 * n;
     let signals = 32 * n;
@@ -61,14 +62,14 @@ pub fn settle_by(
 
 // A mark that is set; past the end none is.
 fn is_marked(marks: &[u8], x: usize) -> bool
-    ensures { λ r. ⌜ r ≡ isMarked (now (marks .entry)) x ⌝ }
+    ensures { λ r. ⌜ r ≡ isMarked (was marks) x ⌝ }
 {
     if x < marks.len() { 0 < marks[x] } else { false }
 }
 
 // Whether the source of a code is a marked input or a marked signal.
 fn code_reached(code: u16, changed: &[u8], marks: &[u8]) -> bool
-    ensures { λ r. ⌜ r ≡ sourceReached (now (changed .entry)) (now (marks .entry)) (sourceOf code) ⌝ }
+    ensures { λ r. ⌜ r ≡ sourceReached (was changed) (was marks) (sourceOf code) ⌝ }
 {
     if code < 256 {
         return false;
@@ -82,7 +83,7 @@ fn code_reached(code: u16, changed: &[u8], marks: &[u8]) -> bool
 // Whether the source of one of the k codes from place i is.
 fn any_reached(codes: &[u16], i: usize, k: usize, changed: &[u8], marks: &[u8]) -> bool
     requires { ⌜ i + k ≤ length (now codes) ⌝ }
-    ensures { λ r. ⌜ r ≡ anyReached (sourceReached (now (changed .entry)) (now (marks .entry))) (now (codes .entry)) i k ⌝ }
+    ensures { λ r. ⌜ r ≡ anyReached (sourceReached (was changed) (was marks)) (was codes) i k ⌝ }
 {
     let mut found = false;
     let mut j = k;
@@ -103,7 +104,7 @@ fn gate_reached(
     marks: &[u8],
 ) -> bool
     requires { ⌜ (32 * n ≤ signalLimit) × (length (now table) ≡ 224 * n) × (x < 32 * n) ⌝ }
-    ensures { λ r. ⌜ r ≡ (touchesMarked (now (changed .entry)) (now (edited .entry)) (gateOf (now (table .entry)) n x) || anyMarked (now (marks .entry)) (readsOf (gateOf (now (table .entry)) n x))) ⌝ }
+    ensures { λ r. ⌜ r ≡ (touchesMarked (was changed) (was edited) (gateOf (was table) n x) || anyMarked (was marks) (readsOf (gateOf (was table) n x))) ⌝ }
 {
     let at = 7 * x;
     let head = table[at] as usize;
@@ -140,7 +141,7 @@ fn edit_along(
 )
     requires { ⌜ (32 * n ≤ signalLimit) × (length (now table) ≡ 224 * n) × (length (now values) ≡ 32 * n) ⌝ }
     requires { ⌜ Ordered (readsIn (gateOf (now table) n)) (32 * n) (now order) ⌝ }
-    ensures { λ _. ⌜ Edited (gateOf (now (table .entry)) n) (32 * n) (env (now (contents .entry)) (now (flops .entry)) (now (inputs .entry))) (λ x. touchesMarked (now (changed .entry)) (now (edited .entry)) (gateOf (now (table .entry)) n x)) (now (values .entry)) (now (values .exit)) ⌝ }
+    ensures { λ _. ⌜ Edited (gateOf (was table) n) (32 * n) (env (was contents) (was flops) (was inputs)) (λ x. touchesMarked (was changed) (was edited) (gateOf (was table) n x)) (was values) (left values) ⌝ }
 {
     let mut marks = [0u8; netlist::SIGNAL_LIMIT];
     let mut i = 0;
@@ -172,7 +173,7 @@ pub fn edit_by(
 )
     requires { ⌜ (32 * n ≤ signalLimit) × (224 * n ≤ length (now net)) × (32 * n ≤ length (now order)) × (length (now values) ≡ 32 * n) ⌝ }
     requires { ⌜ Ordered (readsIn (gateOf (take (224 * n) (now net)) n)) (32 * n) (take (32 * n) (now order)) ⌝ }
-    ensures { λ _. ⌜ Edited (gateOf (take (224 * n) (now (net .entry))) n) (32 * n) (env (now (contents .entry)) (now (flops .entry)) (now (inputs .entry))) (λ x. touchesMarked (now (changed .entry)) (now (edited .entry)) (gateOf (take (224 * n) (now (net .entry))) n x)) (now (values .entry)) (now (values .exit)) ⌝ }
+    ensures { λ _. ⌜ Edited (gateOf (take (224 * n) (was net)) n) (32 * n) (env (was contents) (was flops) (was inputs)) (λ x. touchesMarked (was changed) (was edited) (gateOf (take (224 * n) (was net)) n x)) (was values) (left values) ⌝ }
 {
     let numbers = 224 * n;
     let signals = 32 * n;

@@ -1,0 +1,1 @@
+// What contracts say of a lent slice. No code.
