@@ -8,11 +8,11 @@ use native.Mathlib.Omega.{arith}
 use borrow.Author.Tests.{eq-eqb, le-ltb, ltb-false}
 use lib.ListN.{length, getD, set, length-set}
 use lib.Seq.{getD-set-same, getD-set-other}
+use Rattle.netlist.specs.Table.{signalCount}
 use Rattle.slicefile.proofs.Tests.{or-left, or-right, none-below, below-none}
 use Rattle.rules.specs.Rules.{given}
 use Rattle.rules.proofs.Refusals.{given-none, orElse-right}
 use Rattle.column.specs.Clock.{State, SettledFor}
-use Rattle.column.specs.File.{signalCount}
 use Rattle.column.specs.Judge.{Judged}
 use Rattle.column.specs.declared.Verdict.the-variants.{Accepted}
 use Rattle.column.proofs.Tables.{records-sound, table-bits}

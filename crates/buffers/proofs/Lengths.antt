@@ -6,11 +6,11 @@ use Prim.Native.Nat.{ℕ, _*_}
 use borrow.Author.Tests.{eqb-true, not-false}
 use lib.Dec.{eqb}
 use lib.ListN.{length}
+use Rattle.netlist.specs.Table.{signalCount}
 use Rattle.rules.specs.Rules.{given}
 use Rattle.rules.proofs.Refusals.{given-none, orElse-left, orElse-right}
 use Rattle.slicefile.proofs.Tests.{or-left, or-right}
 use Rattle.column.specs.Clock.{State}
-use Rattle.column.specs.File.{signalCount}
 use Rattle.buffers.specs.Buffers.{badState, badLengths, badBytes, badWords, settleRefusal, editRefusal}
 
 same : (a b : ℕ) → not (eqb a b) ≡ false → a ≡ b

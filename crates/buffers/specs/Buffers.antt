@@ -5,11 +5,12 @@ use mathlib.Core.Bool.{Bool, false, not, _&&_, _||_}
 use mathlib.Core.List.{List}
 use lib.Dec.{eqb, ltb, leb}
 use lib.ListN.{length, getD}
+use Rattle.netlist.specs.Table.{signalCount}
 use Rattle.slicefile.specs.Lists.{anyBelow}
 use Rattle.slicefile.specs.Format.{mode}
 use Rattle.rules.specs.Rules.{given, _orElse_}
 use Rattle.column.specs.Clock.{State}
-use Rattle.column.specs.File.{sliceBody, signalCount}
+use Rattle.column.specs.File.{sliceBody}
 
 -- "a buffer of another length than named": 4n words of contents, n flip-flop bytes
 unfoldable pub badState : ℕ → State → Bool

@@ -6,12 +6,12 @@ use native.Mathlib.Omega.{arith}
 use lib.ListN.{length, take}
 use Rattle.netlist.specs.Graph.{Ordered}
 use Rattle.netlist.specs.Settle.{readsIn}
-use Rattle.netlist.specs.Table.{signalLimit, gateOf}
+use Rattle.netlist.specs.Table.{signalLimit, signalCount, tableLength, gateOf}
 use Rattle.netlist.proofs.Agree.{agree-sym, ordered-agree}
 use Rattle.slicefile.specs.declared.Answer.the-variants.{Refused}
 use Rattle.slicefile.specs.Format.{sliceLimit}
-use Rattle.column.specs.Compile.{tableLength, tableLimit, Loaded}
-use Rattle.column.specs.File.{signalCount, gateAt}
+use Rattle.column.specs.Compile.{tableLimit, Loaded}
+use Rattle.column.specs.File.{gateAt}
 use Rattle.column.specs.Judge.{Judged}
 use Rattle.column.specs.declared.Verdict.{Verdict}
 use Rattle.column.specs.declared.Verdict.the-variants.{Refused as VerdictRefused, Accepted}

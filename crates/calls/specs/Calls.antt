@@ -4,12 +4,12 @@ use Prim.Native.Nat.{ℕ, suc, _≤_}
 use mathlib.Core.Path.{_≡_}
 use mathlib.Core.List.{List}
 use lib.ListN.{length}
+use Rattle.netlist.specs.Table.{signalCount, tableLength}
 use Rattle.slicefile.specs.declared.Answer.{Answer}
 use Rattle.slicefile.specs.declared.Answer.the-variants.{Refused as AnswerRefused, Done}
 use Rattle.rules.specs.Rules.{given}
 use Rattle.column.specs.Clock.{State, powerUp}
-use Rattle.column.specs.Compile.{tableLength, Loaded}
-use Rattle.column.specs.File.{signalCount}
+use Rattle.column.specs.Compile.{Loaded}
 use Rattle.column.specs.Judge.{Judged}
 use Rattle.column.specs.declared.Verdict.{Verdict}
 use Rattle.column.specs.declared.Verdict.the-variants.{Refused, Accepted}

@@ -8,12 +8,12 @@ use native.Mathlib.Omega.{arith}
 use lib.ListN.{length}
 use Rattle.netlist.specs.Graph.{LoopFree, WellFormed}
 use Rattle.netlist.specs.Agree.{Agree}
-use Rattle.netlist.specs.Table.{inputRoom, GateFits, gateOf, storeGate}
+use Rattle.netlist.specs.Table.{signalCount, inputRoom, GateFits, gateOf, storeGate}
 use Rattle.netlist.proofs.Net.{one-settled}
 use Rattle.netlist.proofs.Fitting.{fits-more, fits-reads}
 use Rattle.netlist.proofs.Table.{stored-gate, kept-gate}
 use Rattle.series7.proofs.GateLaws.{gate-fits as slice-fits}
-use Rattle.column.specs.File.{sliceCount, inputCount, sliceBody, signalCount, gateAt}
+use Rattle.column.specs.File.{sliceCount, inputCount, sliceBody, gateAt}
 use Rattle.column.specs.Judge.{readsAt}
 use Rattle.column.specs.Clock.{envOf}
 use Rattle.column.proofs.Runs.{SettlesOnce}

@@ -5,10 +5,10 @@ use mathlib.Core.Logic.{_↔_}
 use Prim.Native.Nat.{ℕ, _<_}
 use native.Mathlib.Decide.{decLt}
 use native.Mathlib.Omega.{arith}
-use Rattle.column.specs.File.{signalCount}
 use Rattle.column.specs.Check.{checkFile}
 use Rattle.column.specs.Compile.{Loaded}
 use Rattle.netlist.specs.Graph.{LoopFree}
+use Rattle.netlist.specs.Table.{signalCount}
 use Rattle.column.specs.Judge.{readsAt, Loop, Looped, Judged, bad, accepted, loop}
 use Rattle.column.specs.declared.Checked.{Checked}
 use Rattle.column.specs.declared.Checked.the-variants.{Bad, Sound}

@@ -6,10 +6,11 @@ use lib.ListN.{getD}
 use Rattle.netlist.specs.Rule.{Env, env, valueOf}
 use Rattle.netlist.specs.Settle.{Settled}
 use Rattle.netlist.specs.declared.Source.{Source}
+use Rattle.netlist.specs.Table.{signalCount}
 use Rattle.slicefile.specs.Lists.{tabulate}
 use Rattle.slicefile.specs.Format.{contentsWord, powerUpBits}
 use Rattle.series7.specs.Edge.{nextFlops, nextWord}
-use Rattle.column.specs.File.{sliceCount, inputCount, sliceBody, signalCount, gateAt}
+use Rattle.column.specs.File.{sliceCount, inputCount, sliceBody, gateAt}
 
 -- "4n 64-bit words of contents, word 4s plus the letter; n flip-flop bytes, one a slice"
 pub record State : Type 0 where

@@ -1,22 +1,19 @@
 -- A file compiled: its netlist in the gate table, and the answer of the search for loops.
-use Prim.Native.Nat.{ℕ, _*_}
+use Prim.Native.Nat.{ℕ}
 use mathlib.Core.List.{List}
 use lib.ListN.{take}
 use Rattle.netlist.specs.Agree.{Agree}
 use Rattle.netlist.specs.Graph.{Ordered}
 use Rattle.toposort.specs.Answer.{OrderOrLoop}
-use Rattle.netlist.specs.Table.{gateOf}
+use Rattle.netlist.specs.Table.{signalCount, tableLength, gateOf, netOf}
 use Rattle.toposort.specs.declared.Sorted.{Sorted}
 use Rattle.slicefile.specs.Format.{sliceLimit}
-use Rattle.column.specs.File.{signalCount, gateAt}
+use Rattle.column.specs.File.{gateAt}
 use Rattle.column.specs.Judge.{readsAt, Judged}
 use Rattle.column.specs.declared.Verdict.{Verdict}
 use Rattle.column.specs.declared.Verdict.the-variants.{Refused, Accepted}
 
--- the numbers of a gate table: seven a signal, of n slices and of the longest file
-abbrev pub tableLength : ℕ → ℕ
-tableLength n = 224 * n
-
+-- the numbers of the gate table of the longest file
 abbrev pub tableLimit : ℕ
 tableLimit = tableLength sliceLimit
 
@@ -33,4 +30,4 @@ pub record Compiled (file : List ℕ) (n : ℕ) (table order : List ℕ) (r : So
 abbrev pub Loaded : List ℕ → List ℕ → List ℕ → Verdict → Type 0
 Loaded file table order (Refused k p) = Judged file (Refused k p)
 Loaded file table order (Accepted n m) =
-    Judged file (Accepted n m) × Lowered file n (take (tableLength n) table) × Ordered (readsAt file) (signalCount n) (take (signalCount n) order)
+    Judged file (Accepted n m) × Agree (netOf table n) (gateAt file) (signalCount n) × Ordered (readsAt file) (signalCount n) (take (signalCount n) order)

@@ -2,6 +2,7 @@
 use Prim.Native.Nat.{ℕ, _+_, _*_, _/_, _%_}
 use mathlib.Core.List.{List}
 use lib.ListN.{drop}
+use Rattle.netlist.specs.Table.{sliceSignals}
 use Rattle.netlist.specs.declared.Gate.{Gate}
 use Rattle.slicefile.specs.Format.{sliceLimit, sizeTag, sliceTag, endTag, recordLength, byteAt, bodyOf}
 use Rattle.series7.specs.Signals.{sliceGate}
@@ -28,10 +29,6 @@ fileLimit = fileLength sliceLimit
 unfoldable pub sliceBody : List ℕ → ℕ → List ℕ
 sliceBody file s = bodyOf sliceTag (drop (recordStart s) file)
 
--- the signals of n slices
-abbrev pub signalCount : ℕ → ℕ
-signalCount n = 32 * n
-
 -- the netlist of a file: the gate of signal 32s+k
 unfoldable pub gateAt : List ℕ → ℕ → Gate
-gateAt file x = sliceGate (sliceCount file) (inputCount file) (x / 32) (sliceBody file (x / 32)) (x % 32)
+gateAt file x = sliceGate (sliceCount file) (inputCount file) (x / sliceSignals) (sliceBody file (x / sliceSignals)) (x % sliceSignals)

@@ -4,7 +4,8 @@ use mathlib.Core.Path.{_≡_}
 use mathlib.Core.List.{List}
 use Rattle.netlist.specs.Graph.{Loop as LoopIn, LoopFree}
 use Rattle.netlist.specs.Settle.{readsIn}
-use Rattle.column.specs.File.{signalCount, gateAt}
+use Rattle.netlist.specs.Table.{signalCount}
+use Rattle.column.specs.File.{gateAt}
 use Rattle.column.specs.Check.{checkFile}
 use Rattle.column.specs.declared.Checked.the-variants.{Bad, Sound}
 use Rattle.column.specs.declared.Verdict.{Verdict}

@@ -1,15 +1,17 @@
 // A whole slice file: its records checked, its netlist, and the judge.
 ghost use mathlib.Core.Path.{_≡_};
-ghost use Prim.Native.Nat.{_*_, _<_, _^_};
+ghost use Prim.Native.Nat.{_<_, _^_};
 ghost use lib.ListN.{length};
 ghost use Rattle.lent.specs.Lent.{was, left};
-ghost use Rattle.column.specs.File.{sliceBody, signalCount, gateAt};
+ghost use Rattle.column.specs.File.{sliceBody, gateAt};
 ghost use Rattle.column.specs.Check.{checkEnd, checkFile};
 ghost use Rattle.column.specs.Judge.{Judged};
-ghost use Rattle.netlist.specs.Table.{signalLimit};
+ghost use Rattle.netlist.specs.Table.{signalLimit, signalCount, tableLength};
 ghost use Rattle.column.specs.Compile.{tableLimit, Lowered, Compiled, Loaded};
 use netlist::Gate;
 use netlist::SIGNAL_LIMIT;
+use netlist::SLICE_NUMBERS;
+use netlist::SLICE_SIGNALS;
 use slicefile::END_TAG;
 use slicefile::HEAD;
 use slicefile::SIZE_RECORD;
@@ -21,9 +23,7 @@ use toposort::Sorted;
 // The longest file.
 pub const FILE_LIMIT: usize = SIZE_RECORD + SLICE_RECORD * SLICE_LIMIT + HEAD;
 
-// The numbers of the gate table of a slice, and of the longest file.
-pub const SLICE_NUMBERS: usize = 224;
-
+// The numbers of the gate table of the longest file.
 pub const TABLE_LIMIT: usize = SLICE_NUMBERS * SLICE_LIMIT;
 
 // What the records say of a file: the number and the place of the first bad record, or n and m.
@@ -99,18 +99,18 @@ fn signal_gate(file: &[u8], n: usize, m: usize, x: usize) -> Gate
     requires { ⌜ (checkFile (now file) ≡ Checked.Sound n m) × (x < signalCount n) ⌝ }
     ensures { λ r. ⌜ r ≡ gateAt (was file) x ⌝ }
 {
-    let s = x / 32;
+    let s = x / SLICE_SIGNALS;
     let body = slice_body(file, n, m, s);
-    series7::gate_at(n, m, s, body, x % 32)
+    series7::gate_at(n, m, s, body, x % SLICE_SIGNALS)
 }
 
 // Puts the netlist of a sound file into the gate table.
 fn lower(file: &[u8], n: usize, m: usize, table: &mut [u16])
-    requires { ⌜ (checkFile (now file) ≡ Checked.Sound n m) × (length (now table) ≡ 224 * n) ⌝ }
+    requires { ⌜ (checkFile (now file) ≡ Checked.Sound n m) × (length (now table) ≡ tableLength n) ⌝ }
     ensures { λ _. ⌜ Lowered (was file) n (left table) ⌝ }
 {
     let mut x: usize = 0;
-    while x < 32 * n {
+    while x < SLICE_SIGNALS * n {
         let gate = signal_gate(file, n, m, x);
         netlist::store_gate(table, n, x, gate);
         x += 1;
@@ -120,7 +120,7 @@ fn lower(file: &[u8], n: usize, m: usize, table: &mut [u16])
 // Lowers a sound file and puts its signals in order, or finds the smallest one on a loop.
 fn compile(file: &[u8], n: usize, m: usize, table: &mut [u16], order: &mut [u16]) -> Sorted
     requires { ⌜ checkFile (now file) ≡ Checked.Sound n m ⌝ }
-    requires { ⌜ (length (now table) ≡ 224 * n) × (length (now order) ≡ signalCount n) ⌝ }
+    requires { ⌜ (length (now table) ≡ tableLength n) × (length (now order) ≡ signalCount n) ⌝ }
     ensures { λ r. ⌜ Compiled (was file) n (left table) (left order) r ⌝ }
 {
     lower(file, n, m, table);
@@ -134,7 +134,7 @@ fn load_sound(file: &[u8], n: usize, m: usize, table: &mut [u16], order: &mut [u
     ensures { λ r. ⌜ Loaded (was file) (left table) (left order) r ⌝ }
 {
     let numbers = SLICE_NUMBERS * n;
-    let signals = 32 * n;
+    let signals = SLICE_SIGNALS * n;
     match compile(file, n, m, &mut table[..numbers], &mut order[..signals]) {
         Sorted::Loop(place) => Verdict::Refused { number: 9, place },
         Sorted::Done => Verdict::Accepted { n, m },

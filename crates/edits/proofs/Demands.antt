@@ -12,11 +12,12 @@ use Rattle.netlist.specs.Rule.{touchesInput, touchesTable}
 use Rattle.netlist.specs.declared.Gate.{Gate}
 use Rattle.netlist.proofs.Bits.{edited-bits}
 use Rattle.netlist.proofs.Net.{one-edited, input-edited, contents-edited}
+use Rattle.netlist.specs.Table.{signalCount}
 use Rattle.slicefile.specs.declared.Answer.{Answer}
 use Rattle.slicefile.specs.declared.Answer.the-variants.{Done}
 use Rattle.slicefile.proofs.Tests.{or-right}
 use Rattle.column.specs.Clock.{stateOf, State, envOf, SettledFor, OnlySettled}
-use Rattle.column.specs.File.{signalCount, gateAt}
+use Rattle.column.specs.File.{gateAt}
 use Rattle.column.specs.Judge.{Judged}
 use Rattle.column.specs.declared.Verdict.the-variants.{Accepted}
 use Rattle.column.proofs.Tables.{records-sound, closed, ordered, settled-only}

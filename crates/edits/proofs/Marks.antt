@@ -7,11 +7,10 @@ use lib.ListN.{take}
 use Rattle.netlist.specs.Rule.{Env}
 use Rattle.netlist.specs.Settle.{Edited}
 use Rattle.netlist.specs.declared.Gate.{Gate}
-use Rattle.netlist.specs.Table.{gateOf}
+use Rattle.netlist.specs.Table.{signalCount, tableLength, gateOf}
 use Rattle.netlist.proofs.Agree.{agree-sym, well-formed-agree}
 use Rattle.walks.proofs.Edits.{edited-as, edited-agree}
-use Rattle.column.specs.Compile.{tableLength}
-use Rattle.column.specs.File.{signalCount, gateAt}
+use Rattle.column.specs.File.{gateAt}
 use Rattle.column.proofs.Netlist.{sound-well-formed}
 use Rattle.column.proofs.SoundLaws.{sound-file}
 use Rattle.column.proofs.Verdicts.{accepted-sound}

@@ -8,9 +8,10 @@ use lib.ListN.{set}
 use Rattle.netlist.specs.Rule.{touchesInput, touchesTable}
 use Rattle.netlist.specs.Settle.{Edited}
 use Rattle.netlist.specs.declared.Gate.{Gate}
+use Rattle.netlist.specs.Table.{signalCount}
 use Rattle.slicefile.specs.declared.Answer.{Answer}
 use Rattle.column.specs.Clock.{State, stateOf, envOf}
-use Rattle.column.specs.File.{signalCount, gateAt}
+use Rattle.column.specs.File.{gateAt}
 use Rattle.buffers.specs.Buffers.{editRefusal, badInput, badTable}
 use Rattle.calls.specs.Calls.{Called}
 

@@ -9,7 +9,7 @@ use Rattle.netlist.specs.declared.Source.the-variants.{Constant, Input, 
 use Rattle.netlist.specs.declared.Gate.{Gate}
 use Rattle.netlist.specs.declared.Gate.the-variants.{Lut, ZeroOf, Select, Xor, Same, Stored}
 use Rattle.netlist.specs.Rule.{sourcesOf, signalsIn, readsOf}
-use Rattle.netlist.specs.Table.{SourceFits, GateFits}
+use Rattle.netlist.specs.Table.{signalCount, SourceFits, GateFits}
 
 -- a netlist of more inputs has the gates of one with fewer
 module _ (n : ℕ) {m k : ℕ} (h : m ≤ k) where
@@ -43,14 +43,14 @@ module _ (n m : ℕ) where
   all-fit (Same a) f = (f, tt)
   all-fit (Stored q) f = tt
 
-  signal-below : (ss : List Source) → AllFit ss → (y : ℕ) → List·Memᴰ y (signalsIn ss) → y < 32 * n
+  signal-below : (ss : List Source) → AllFit ss → (y : ℕ) → List·Memᴰ y (signalsIn ss) → y < signalCount n
   unfolding signalsIn
   signal-below [] f y r = absurd (List·Memᴰ·not-nil r)
   signal-below (Constant b ∷ ss) f y r = signal-below ss (f .1) y r
   signal-below (Input j ∷ ss) f y r = signal-below ss (f .1) y r
   signal-below (Signal x ∷ ss) f y r =
-      ⊎-elim (λ e. subst⁻¹ (λ (k : ℕ). k < 32 * n) e (f .0)) (λ t. signal-below ss (f .1) y t) (List·Memᴰ·cases-cons r)
+      ⊎-elim (λ e. subst⁻¹ (λ (k : ℕ). k < signalCount n) e (f .0)) (λ t. signal-below ss (f .1) y t) (List·Memᴰ·cases-cons r)
 
-  pub fits-reads : (gate : Gate) → GateFits n m gate → (y : ℕ) → List·Memᴰ y (readsOf gate) → y < 32 * n
+  pub fits-reads : (gate : Gate) → GateFits n m gate → (y : ℕ) → List·Memᴰ y (readsOf gate) → y < signalCount n
   unfolding readsOf
   fits-reads gate f = signal-below (sourcesOf gate) (all-fit gate f)

@@ -15,7 +15,7 @@ use Rattle.netlist.specs.declared.Source.{Source}
 use Rattle.netlist.specs.declared.Source.the-variants.{Constant, Input, Signal}
 use Rattle.netlist.specs.declared.Gate.{Gate}
 use Rattle.netlist.specs.declared.Gate.the-variants.{Lut, ZeroOf, Select, Xor, Same, Stored}
-use Rattle.netlist.specs.Table.{signalLimit, codeOf, sourceOf, gateNumbers, gateWith, gateOf, storeGate, inputRoom, SourceFits, GateFits}
+use Rattle.netlist.specs.Table.{signalLimit, rowLength, signalCount, codeOf, sourceOf, gateNumbers, gateWith, gateOf, storeGate, inputRoom, SourceFits, GateFits}
 
 -- a run of stores leaves what stands before it and after it
 sets-other : (vs l : List ℕ) (i j : ℕ) → (j < i) ⊎ (i + length vs ≤ j) → getD (sets l i vs) j 0 ≡ getD l j 0
@@ -34,7 +34,7 @@ sets-at (a ∷ vs) l i (suc k) h fits =
     rw e (sets-at vs (set l i a) (suc i) k (le-of-suc-le-suc h) (omega (arith, length-set l i a)))
 
 -- a code fits 16 bits
-pub code-fits : (n : ℕ) (s : Source) → 32 * n ≤ signalLimit → SourceFits n inputRoom s → codeOf s < 65536
+pub code-fits : (n : ℕ) (s : Source) → signalCount n ≤ signalLimit → SourceFits n inputRoom s → codeOf s < 65536
 unfolding codeOf
 code-fits n (Constant true) h f = lit< tt
 code-fits n (Constant false) h f = lit< tt
@@ -55,7 +55,7 @@ source-back n (Signal x) f =
 
 -- a gate goes by its head and its six sources
 gate-same :
-    (n head head′ : ℕ) (p q : ℕ → Source) → head ≡ head′ → ((i : ℕ) → i < 7 → p i ≡ q i) → gateWith n head p ≡ gateWith n head′ q
+    (n head head′ : ℕ) (p q : ℕ → Source) → head ≡ head′ → ((i : ℕ) → i < rowLength → p i ≡ q i) → gateWith n head p ≡ gateWith n head′ q
 unfolding gateWith
 gate-same n head head′ p q e f =
     rw (e, f 1 (lit< tt), f 2 (lit< tt), f 3 (lit< tt), f 4 (lit< tt), f 5 (lit< tt), f 6 (lit< tt))
@@ -91,16 +91,16 @@ seven n (Stored q) = refl
 
 module _ (table : List ℕ) (n x : ℕ) (gate : Gate) where
   -- the gate that is stored is the gate that is read
-  pub stored-gate : 7 * x + 7 ≤ length table → GateFits n inputRoom gate → gateOf (storeGate table n x gate) n x ≡ gate
+  pub stored-gate : rowLength * x + rowLength ≤ length table → GateFits n inputRoom gate → gateOf (storeGate table n x gate) n x ≡ gate
   unfolding gateOf storeGate
   stored-gate fits f =
       gate-same n _ _ _ (λ i. sourceOf (getD (gateNumbers n gate) i 0)) (rw zero-add at (at 0 (lit< tt))) (λ i h. ap sourceOf (at i h))
       ∙ gate-back n gate f
     where
-      at : (i : ℕ) → i < 7 → getD (sets table (7 * x) (gateNumbers n gate)) (7 * x + i) 0 ≡ getD (gateNumbers n gate) i 0
-      at i h = sets-at (gateNumbers n gate) table (7 * x) i (omega (arith, seven n gate)) (omega (arith, seven n gate))
+      at : (i : ℕ) → i < rowLength → getD (sets table (rowLength * x) (gateNumbers n gate)) (rowLength * x + i) 0 ≡ getD (gateNumbers n gate) i 0
+      at i h = sets-at (gateNumbers n gate) table (rowLength * x) i (omega (arith, seven n gate)) (omega (arith, seven n gate))
 
-      zero-add : 7 * x + 0 ≡ 7 * x
+      zero-add : rowLength * x + 0 ≡ rowLength * x
       zero-add = omega arith
 
   -- any other signal keeps its gate
@@ -109,15 +109,15 @@ module _ (table : List ℕ) (n x : ℕ) (gate : Gate) where
   kept-gate y d =
       gate-same n _ _ _ _ (rw zero-add at (at 0 (lit< tt))) (λ i h. ap sourceOf (at i h))
     where
-      side : (i : ℕ) → i < 7 → Dec (y < x) → (7 * y + i < 7 * x) ⊎ (7 * x + length (gateNumbers n gate) ≤ 7 * y + i)
+      side : (i : ℕ) → i < rowLength → Dec (y < x) → (rowLength * y + i < rowLength * x) ⊎ (rowLength * x + length (gateNumbers n gate) ≤ rowLength * y + i)
       side i h (yes l) = inl (omega arith)
       side i h (no l) = inr (omega (arith, seven n gate, strict))
         where
           strict : x < y
           strict = omega arith
 
-      at : (i : ℕ) → i < 7 → getD (sets table (7 * x) (gateNumbers n gate)) (7 * y + i) 0 ≡ getD table (7 * y + i) 0
-      at i h = sets-other (gateNumbers n gate) table (7 * x) (7 * y + i) (side i h (decLt y x))
+      at : (i : ℕ) → i < rowLength → getD (sets table (rowLength * x) (gateNumbers n gate)) (rowLength * y + i) 0 ≡ getD table (rowLength * y + i) 0
+      at i h = sets-other (gateNumbers n gate) table (rowLength * x) (rowLength * y + i) (side i h (decLt y x))
 
-      zero-add : 7 * y + 0 ≡ 7 * y
+      zero-add : rowLength * y + 0 ≡ rowLength * y
       zero-add = omega arith

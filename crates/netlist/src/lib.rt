@@ -5,10 +5,17 @@ ghost use Prim.Native.Nat.{_+_, _*_, _≤_, _<_};
 ghost use lib.ListN.{length};
 ghost use lib.Seq.{sets};
 ghost use Rattle.lent.specs.Lent.{was, left};
-ghost use Rattle.netlist.specs.Table.{signalLimit, inputRoom, codeOf, GateFits, storeGate};
+ghost use Rattle.netlist.specs.Table.{rowLength, signalCount, IsTable, codeOf, Coded, rowOf, storeGate, inputRoom, GateFits};
 
 // How many signals a netlist may have.
 pub const SIGNAL_LIMIT: usize = 2048;
+
+// The signals of a slice; the numbers of a signal's row in the gate table, its head and six sources; and those of a slice.
+pub const SLICE_SIGNALS: usize = 32;
+
+pub const ROW: usize = 7;
+
+pub const SLICE_NUMBERS: usize = ROW * SLICE_SIGNALS;
 
 // What drives a pin. Signal numbers are absolute.
 pub enum Source {
@@ -45,7 +52,7 @@ pub enum Gate {
 
 // The number that stands for a source in the gate table.
 pub fn source_code(source: Source) -> u16
-    requires { ⌜ codeOf source < 65536 ⌝ }
+    requires { ⌜ Coded source ⌝ }
     ensures { λ r. ⌜ r ≡ codeOf source ⌝ }
 {
     match source {
@@ -67,10 +74,10 @@ fn store_numbers(
     p5: u16,
     p6: u16,
 )
-    requires { ⌜ (head < 65536) × (7 * x + 7 ≤ length (now table)) ⌝ }
-    ensures { λ _. ⌜ left table ≡ sets (was table) (7 * x) (head ∷ p1 ∷ p2 ∷ p3 ∷ p4 ∷ p5 ∷ p6 ∷ []) ⌝ }
+    requires { ⌜ (head < 65536) × (rowLength * x + rowLength ≤ length (now table)) ⌝ }
+    ensures { λ _. ⌜ left table ≡ sets (was table) (rowLength * x) (head ∷ p1 ∷ p2 ∷ p3 ∷ p4 ∷ p5 ∷ p6 ∷ []) ⌝ }
 {
-    let at = 7 * x;
+    let at = ROW * x;
     table[at] = head as u16;
     table[at + 1] = p1;
     table[at + 2] = p2;
@@ -92,9 +99,9 @@ fn store_row(
     p5: Source,
     p6: Source,
 )
-    requires { ⌜ (head < 65536) × (7 * x + 7 ≤ length (now table)) ⌝ }
-    requires { ⌜ (codeOf p1 < 65536) × (codeOf p2 < 65536) × (codeOf p3 < 65536) × (codeOf p4 < 65536) × (codeOf p5 < 65536) × (codeOf p6 < 65536) ⌝ }
-    ensures { λ _. ⌜ left table ≡ sets (was table) (7 * x) (head ∷ codeOf p1 ∷ codeOf p2 ∷ codeOf p3 ∷ codeOf p4 ∷ codeOf p5 ∷ codeOf p6 ∷ []) ⌝ }
+    requires { ⌜ (head < 65536) × (rowLength * x + rowLength ≤ length (now table)) ⌝ }
+    requires { ⌜ Coded p1 × Coded p2 × Coded p3 × Coded p4 × Coded p5 × Coded p6 ⌝ }
+    ensures { λ _. ⌜ left table ≡ sets (was table) (rowLength * x) (rowOf head p1 p2 p3 p4 p5 p6) ⌝ }
 {
     let a = source_code(p1);
     let b = source_code(p2);
@@ -107,8 +114,7 @@ fn store_row(
 
 // Puts signal x's gate into the gate table of n slices.
 pub fn store_gate(table: &mut [u16], n: usize, x: usize, gate: Gate)
-    requires { ⌜ (32 * n ≤ signalLimit) × (x < 32 * n) × (length (now table) ≡ 224 * n) ⌝ }
-    requires { ⌜ GateFits n inputRoom gate ⌝ }
+    requires { ⌜ IsTable n (now table) × (x < signalCount n) × GateFits n inputRoom gate ⌝ }
     ensures { λ _. ⌜ left table ≡ storeGate (was table) n x gate ⌝ }
 {
     let none = Source::Constant(false);

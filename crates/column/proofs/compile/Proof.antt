@@ -4,10 +4,10 @@ use native.Mathlib.Omega.{arith}
 use borrow.Author.Needs.{needs}
 use Rattle.netlist.specs.Graph.{WellFormed}
 use Rattle.netlist.specs.Settle.{readsIn}
-use Rattle.netlist.specs.Table.{gateOf}
+use Rattle.netlist.specs.Table.{signalCount, gateOf}
 use Rattle.netlist.proofs.Agree.{agree-sym, well-formed-agree}
 use Rattle.toposort.proofs.Answers.{order-or-loop-agree}
-use Rattle.column.specs.File.{signalCount, gateAt}
+use Rattle.column.specs.File.{gateAt}
 use Rattle.column.proofs.Netlist.{sound-well-formed}
 use Rattle.column.proofs.SoundLaws.{sound-file}
 use Rattle.column.proofs.compile.Statement.{statement}

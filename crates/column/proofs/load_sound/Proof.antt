@@ -6,11 +6,11 @@ use borrow.Author.Needs.{needs}
 use lib.ListN.{length, take}
 use lib.Seq.{take-at, length-take-le}
 use Rattle.netlist.proofs.Order.{loop-free}
+use Rattle.netlist.specs.Table.{signalCount, tableLength}
 use Rattle.toposort.specs.Answer.{OrderOrLoop}
 use Rattle.toposort.specs.declared.Sorted.{Sorted}
 use Rattle.slicefile.specs.Format.{sliceLimit}
-use Rattle.column.specs.Compile.{tableLength}
-use Rattle.column.specs.File.{signalCount, gateAt}
+use Rattle.column.specs.File.{gateAt}
 use Rattle.column.specs.Judge.{accepted, loop}
 use Rattle.column.proofs.SoundLaws.{sound-file}
 use Rattle.column.proofs.load_sound.Statement.{statement}

@@ -1,11 +1,11 @@
 -- `column::lower` meets its contract. The loop's invariant: the signals before x have their gates in the table. Assumes nothing.
 use mathlib.Core.Path.{_≡_, _∙_, sym}
-use Prim.Native.Nat.{_*_, _-_, _≤_}
+use Prim.Native.Nat.{_-_, _≤_}
 use native.Mathlib.Omega.{arith}
 use borrow.Author.Needs.{needs}
 use lib.ListN.{length}
 use Rattle.netlist.specs.Agree.{Agree}
-use Rattle.netlist.specs.Table.{gateOf}
+use Rattle.netlist.specs.Table.{signalCount, tableLength, gateOf}
 use Rattle.column.specs.File.{gateAt}
 use Rattle.column.proofs.Netlist.{gate-fits, lower-next}
 use Rattle.column.proofs.SoundLaws.{SoundFile, sound-file}
@@ -13,10 +13,10 @@ use Rattle.column.proofs.lower.Statement.{statement}
 use Rattle.column.proofs.lower.Tie as tie
 
 abbrev Inv-loop : tie.InvT-loop
-Inv-loop file n m table₀ x₀ table x = (x ≤ 32 * n) × (length table ≡ 224 * n) × Agree (gateOf table n) (gateAt file) x
+Inv-loop file n m table₀ x₀ table x = (x ≤ signalCount n) × (length table ≡ tableLength n) × Agree (gateOf table n) (gateAt file) x
 
 abbrev μ-loop : tie.MeasureT-loop
-μ-loop file n m table₀ x₀ table x = 32 * n - x
+μ-loop file n m table₀ x₀ table x = signalCount n - x
 
 fine : (c : tie.After-slice-known Inv-loop μ-loop) → SoundFile (c .before .before .args .file .now) (c .before .before .args .n) (c .before .before .args .m)
 fine c = sound-file (c .before .before .args .file .now) (c .before .before .pre .0)
@@ -34,7 +34,7 @@ store-gate-requires : tie.Need-store-gate-requires Inv-loop μ-loop
 store-gate-requires c κs =
     let f = fine (c .before .before .before .before) in
     let at = c .before .before .before .loop in
-    ((omega (arith, f .slices-fit), search needs, at .inv .1), rw (c .before .signal-gate .ensures) (gate-fits _ f (at .x) (search needs)))
+    ((omega (arith, f .slices-fit), at .inv .1), search needs, rw (c .before .signal-gate .ensures) (gate-fits _ f (at .x) (search needs)))
 
 add-x : tie.Need-add-x Inv-loop μ-loop
 add-x c = search needs

@@ -15,7 +15,7 @@ use Rattle.netlist.proofs.store_gate.Tie as tie
 
 -- the gate that was found fits, and the codes of its sources do
 fits : (c : tie.Start) {gate : Gate} → c .args .gate ≡ gate → GateFits (c .args .n) inputRoom gate
-fits c e = subst (GateFits (c .args .n) inputRoom) e (c .pre .1)
+fits c e = subst (GateFits (c .args .n) inputRoom) e (c .pre .2)
 
 code : (c : tie.Start) (s : Source) → SourceFits (c .args .n) inputRoom s → codeOf s < 65536
 code c s f = code-fits (c .args .n) s (c .pre .0 .0) f

@@ -4,6 +4,7 @@ use mathlib.Core.Path.{_≡_}
 use native.Mathlib.Omega.{arith}
 use lib.ListN.{length-set}
 use borrow.Author.Needs.{needs}
+use Rattle.netlist.specs.Table.{rowLength}
 use Rattle.netlist.proofs.store_numbers.Statement.{statement}
 use Rattle.netlist.proofs.store_numbers.Tie as tie
 
@@ -84,7 +85,7 @@ same-length : tie.Need-same-length
 same-length c = search needs
 
 returns : tie.Need-returns
-returns c = let e = places (7 * c .args .x) in rw (e .0, e .1, e .2, e .3, e .4, e .5)
+returns c = let e = places (rowLength * c .args .x) in rw (e .0, e .1, e .2, e .3, e .4, e .5)
 
 pub store-numbers-spec : {M : Type 1} → statement M
 store-numbers-spec =
