@@ -1,1 +1,1 @@
-// What contracts say of a lent slice. No code.
+// What contracts say of a lent slice: definitions only, no code.
