@@ -8,6 +8,7 @@ ghost use Rattle.column.specs.Check.{checkFile};
 ghost use Rattle.column.specs.Clock.{stateOf};
 ghost use Rattle.buffers.specs.Buffers.{badState, badLengths, badBytes, badWord, badWords, settleRefusal, editRefusal, badTable};
 use column::Checked;
+use slicefile::MODE;
 
 // Whether the contents or the flip-flops have another length than n slices take.
 pub fn bad_state(n: usize, contents: &[u64], flops: &[u8]) -> bool
@@ -51,7 +52,7 @@ fn bad_word(file: &[u8], n: usize, m: usize, t: usize, word: u64) -> bool
     ensures { λ r. ⌜ r ≡ badWord (was file) t word ⌝ }
 {
     let body = column::slice_body(file, n, m, t / 4);
-    (body[2 + t % 4] == 2) & (4294967296 <= word)
+    (body[MODE + t % 4] == 2) & (4294967296 <= word)
 }
 
 // Whether any word does.

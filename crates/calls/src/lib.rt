@@ -10,6 +10,7 @@ ghost use Rattle.calls.specs.Calls.{refusalOf, PoweredUp};
 use column::Checked;
 use column::Verdict;
 use slicefile::Answer;
+use slicefile::POWER_UP;
 
 // The judge's refusal as the answer of a call.
 pub fn refusal(v: Verdict) -> Answer
@@ -42,7 +43,7 @@ fn fill_flops(file: &[u8], n: usize, m: usize, flops: &mut [u8])
     let mut s = 0;
     while s < n {
         let body = column::slice_body(file, n, m, s);
-        flops[s] = body[59];
+        flops[s] = body[POWER_UP];
         s += 1;
     }
 }

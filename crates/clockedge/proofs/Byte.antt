@@ -10,6 +10,7 @@ use Rattle.netlist.specs.declared.Source.{Source}
 use Rattle.slicefile.specs.Lists.{tabulate}
 use Rattle.slicefile.proofs.Tabulate.{tabulate-from, tabulate-same}
 use Rattle.evaluation.specs.Codes.{numberOn}
+use Rattle.clocknumbers.specs.Numbers.{flopPlace}
 use Rattle.clockedge.specs.Moves.{edgeCe, edgeSr, edgeFlop, edgeValues, bitBy, flopsBy}
 use Rattle.clockedge.proofs.Bits.{eight-bits}
 
@@ -32,9 +33,9 @@ module _ (v : Source → ℕ) (e : List ℕ) (old : ℕ) where
   byte-reset h = by-bits (bitAt (edgeValues e)) (λ b. rw (eq-eqb (v (edgeSr e)) 1 h)) ∙ eight-bits (edgeValues e)
 
   module _ (run : v (edgeSr e) ≡ 1 → ⊥) where
-    pub byte-taken : v (edgeCe e) ≡ 1 → flopsBy v e old ≡ numberOn v e 9 8
+    pub byte-taken : v (edgeCe e) ≡ 1 → flopsBy v e old ≡ numberOn v e flopPlace 8
     unfolding bitBy
-    byte-taken h = by-bits (λ b. v (edgeFlop e b)) (λ b. rw (ne-eqb (v (edgeSr e)) 1 run, eq-eqb (v (edgeCe e)) 1 h)) ∙ sym (number-on v e 9 8)
+    byte-taken h = by-bits (λ b. v (edgeFlop e b)) (λ b. rw (ne-eqb (v (edgeSr e)) 1 run, eq-eqb (v (edgeCe e)) 1 h)) ∙ sym (number-on v e flopPlace 8)
 
     pub byte-kept : (v (edgeCe e) ≡ 1 → ⊥) → flopsBy v e old ≡ old % 256
     unfolding bitBy

@@ -20,7 +20,7 @@ use Rattle.rules.proofs.Letters.{memory-with-d}
 use Rattle.sources.specs.Sources.{pinSource, own}
 use Rattle.series7.specs.Edge.{mainSource, secondSource, flopSource, nextBit, nextFlops, writeAddress, written, nextWord}
 use Rattle.series7.proofs.GateLaws.{either, pin-fits, wide-small}
-use Rattle.clocknumbers.specs.Numbers.{edgeLength, resetCode, addressCode, kindOf, writeCode, edgeNumber, edgeNumbers}
+use Rattle.clocknumbers.specs.Numbers.{enablePlace, resetPlace, writePlace, addressPlace, valuesPlace, edgeLength, resetCode, addressCode, kindOf, writeCode, edgeNumber, edgeNumbers}
 use Rattle.clocknumbers.proofs.Table.{number-at}
 use Rattle.clockedge.specs.Moves.{edgeWe, addressBy, bitBy, flopsBy, writtenBy, wordBy}
 use Rattle.clockedge.proofs.Byte.{number-on}
@@ -97,7 +97,7 @@ module _ (n m s : ℕ) (body : List ℕ) (here : s < n) (room : m ≤ inputRoom)
     unfolding bitBy nextBit edgeNumber resetCode
     bit-law old b h =
         let at : (k : ℕ) → k < edgeLength → getD numbers k 0 ≡ edgeNumber n m s body k = number-at n m s body in
-        rw (at 0 (lit< tt), at 1 (lit< tt), at 17 (lit< tt), flop-at n m s body b h, flop-back b h, maybe v none (eqb (setResetUsed body) 1) (pinSource n m body setResetPin) (pin-back setResetPin), pin-back clockEnablePin)
+        rw (at enablePlace (lit< tt), at resetPlace (lit< tt), at valuesPlace (lit< tt), flop-at n m s body b h, flop-back b h, maybe v none (eqb (setResetUsed body) 1) (pinSource n m body setResetPin) (pin-back setResetPin), pin-back clockEnablePin)
 
     -- the flip-flop byte after the edge
     pub flops-law : (old : ℕ) → flopsBy v numbers old ≡ nextFlops v n m s body old
@@ -107,12 +107,12 @@ module _ (n m s : ℕ) (body : List ℕ) (here : s < n) (room : m ≤ inputRoom)
     address-law : mode body 3 ≡ 1 → addressBy v numbers ≡ writeAddress v n m body
     unfolding writeAddress addressCode
     address-law e =
-        number-on v numbers 3 6
+        number-on v numbers addressPlace 6
         ∙ ap number (tabulate-same 6 _ _ (λ i h. rw (address-at n m s body i h, eq-eqb (mode body 3) 1 e, pin-back (lutPin 3 i))))
 
     we-law : edgeWe numbers ≡ pinSource n m body writeEnablePin
     unfolding edgeNumber
-    we-law = ap sourceOf (number-at n m s body 2 (lit< tt)) ∙ pin-back writeEnablePin
+    we-law = ap sourceOf (number-at n m s body writePlace (lit< tt)) ∙ pin-back writeEnablePin
 
     -- a letter's word after the edge
     pub word-law : bodyRefusal n m s body ≡ 0 → (l old next : ℕ) → l < 4 → wordBy v numbers l old next ≡ nextWord v n m body l old next

@@ -9,34 +9,35 @@ use Rattle.netlist.specs.Table.{sourceOf}
 use Rattle.netlist.specs.declared.Source.{Source}
 use Rattle.slicefile.specs.Lists.{tabulate}
 use Rattle.evaluation.specs.Codes.{numberOn}
+use Rattle.clocknumbers.specs.Numbers.{enablePlace, resetPlace, writePlace, addressPlace, flopPlace, valuesPlace, kindPlace, dataPlace}
 use Rattle.series7.specs.Edge.{withBit, shifted}
 
 -- the parts of a list of numbers: the sources of CE, SR, WE, of bit b of the flip-flop byte and of letter l's write data
 abbrev pub edgeCe : List ℕ → Source
-edgeCe e = sourceOf (getD e 0 0)
+edgeCe e = sourceOf (getD e enablePlace 0)
 
 abbrev pub edgeSr : List ℕ → Source
-edgeSr e = sourceOf (getD e 1 0)
+edgeSr e = sourceOf (getD e resetPlace 0)
 
 abbrev pub edgeWe : List ℕ → Source
-edgeWe e = sourceOf (getD e 2 0)
+edgeWe e = sourceOf (getD e writePlace 0)
 
 abbrev pub edgeFlop : List ℕ → ℕ → Source
-edgeFlop e b = sourceOf (getD e (9 + b) 0)
+edgeFlop e b = sourceOf (getD e (flopPlace + b) 0)
 
 abbrev pub edgeWrite : List ℕ → ℕ → Source
-edgeWrite e l = sourceOf (getD e (22 + l) 0)
+edgeWrite e l = sourceOf (getD e (dataPlace + l) 0)
 
 -- the set/reset values, and letter l's table kind
 abbrev pub edgeValues : List ℕ → ℕ
-edgeValues e = getD e 17 0
+edgeValues e = getD e valuesPlace 0
 
 abbrev pub edgeKind : List ℕ → ℕ → ℕ
-edgeKind e l = getD e (18 + l) 0
+edgeKind e l = getD e (kindPlace + l) 0
 
 -- the write address: "the same for all four"
 abbrev pub addressBy : (Source → ℕ) → List ℕ → ℕ
-addressBy v e = numberOn v e 3 6
+addressBy v e = numberOn v e addressPlace 6
 
 -- "SR used and 1 gives the set/reset value (over CE); else CE 1 takes the input; else keep"
 unfoldable pub bitBy : (Source → ℕ) → List ℕ → ℕ → ℕ → ℕ

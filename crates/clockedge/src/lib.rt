@@ -8,19 +8,27 @@ ghost use Rattle.series7.specs.Edge.{withBit, shifted};
 ghost use Rattle.clocknumbers.specs.Numbers.{edgeLength};
 ghost use Rattle.clockedge.specs.Moves.{flopsBy, wordBy};
 ghost use Rattle.clockedge.specs.Moved.{Moved};
+use clocknumbers::ADDRESS;
+use clocknumbers::DATA;
+use clocknumbers::ENABLE;
+use clocknumbers::FLOPS;
+use clocknumbers::KINDS;
+use clocknumbers::RESET;
+use clocknumbers::VALUES;
+use clocknumbers::WRITE;
 
 // The flip-flop byte of a slice after the edge.
 pub fn next_flops(edge: &[u16], inputs: &[u8], values: &[u8], old: u8) -> u8
     requires { ⌜ length (now edge) ≡ edgeLength ⌝ }
     ensures { λ r. ⌜ r ≡ flopsBy (valueOf (was inputs) (was values)) (was edge) old ⌝ }
 {
-    let reset = evaluation::code_value(edge[1], inputs, values);
+    let reset = evaluation::code_value(edge[RESET], inputs, values);
     if reset == 1 {
-        return (edge[17] % 256) as u8;
+        return (edge[VALUES] % 256) as u8;
     }
-    let enable = evaluation::code_value(edge[0], inputs, values);
+    let enable = evaluation::code_value(edge[ENABLE], inputs, values);
     if enable == 1 {
-        return evaluation::number_on(edge, 9, 8, inputs, values);
+        return evaluation::number_on(edge, FLOPS, 8, inputs, values);
     }
     old
 }
@@ -54,17 +62,17 @@ pub fn next_word(edge: &[u16], l: usize, inputs: &[u8], values: &[u8], old: u64,
     requires { ⌜ (length (now edge) ≡ edgeLength) × (l < 4) ⌝ }
     ensures { λ r. ⌜ r ≡ wordBy (valueOf (was inputs) (was values)) (was edge) l old next ⌝ }
 {
-    let enable = evaluation::code_value(edge[2], inputs, values);
+    let enable = evaluation::code_value(edge[WRITE], inputs, values);
     if enable != 1 {
         return old;
     }
-    let kind = edge[18 + l];
+    let kind = edge[KINDS + l];
     if kind == 0 {
         return old;
     }
-    let bit = evaluation::code_value(edge[22 + l], inputs, values);
+    let bit = evaluation::code_value(edge[DATA + l], inputs, values);
     if kind == 1 {
-        let address = evaluation::number_on(edge, 3, 6, inputs, values);
+        let address = evaluation::number_on(edge, ADDRESS, 6, inputs, values);
         return with_bit(old, address, bit);
     }
     if kind == 2 {

@@ -1,6 +1,4 @@
--- What the clock edge needs of a slice, as 27 plain numbers: 0, 1, 2 the sources of CE, SR and WE; 3-8 the write address D1-D6; 9-16 the data of
--- main A to D and second A to D; 17 the set/reset values; 18-21 the table kinds of A to D; 22-25 the write data of A to D; 26 the flip-flops in
--- the byte. A source stands by its code, and is the constant 0 where the slice doesn't use it.
+-- What the clock edge needs of a slice, as 27 plain numbers. A source stands by its code, and is the constant 0 where the slice doesn't use it.
 use mathlib.Core.Bool.{cond}
 use mathlib.Core.List.{List}
 use Prim.Native.Nat.{ℕ, _-_}
@@ -10,6 +8,36 @@ use Rattle.slicefile.specs.Lists.{tabulate}
 use Rattle.slicefile.specs.Format.{mode, shiftData, setResetValues, setResetUsed, lutPin, bypassPin, clockEnablePin, setResetPin, writeEnablePin}
 use Rattle.sources.specs.Sources.{pinSource}
 use Rattle.series7.specs.Edge.{flopSource}
+
+-- their places: the sources of CE, SR and WE; of the write address D1-D6
+abbrev pub enablePlace : ℕ
+enablePlace = 0
+
+abbrev pub resetPlace : ℕ
+resetPlace = 1
+
+abbrev pub writePlace : ℕ
+writePlace = 2
+
+abbrev pub addressPlace : ℕ
+addressPlace = 3
+
+-- the data of main A to D and second A to D; the set/reset values
+abbrev pub flopPlace : ℕ
+flopPlace = 9
+
+abbrev pub valuesPlace : ℕ
+valuesPlace = 17
+
+-- the table kinds and the write data of A to D; the flip-flops in the byte
+abbrev pub kindPlace : ℕ
+kindPlace = 18
+
+abbrev pub dataPlace : ℕ
+dataPlace = 22
+
+abbrev pub widthPlace : ℕ
+widthPlace = 26
 
 -- how many numbers a slice has
 abbrev pub edgeLength : ℕ
@@ -41,14 +69,14 @@ dataCode n m body l = writeCode (tableKind body l) (codeOf (pinSource n m body (
 -- number k of the edge
 unfoldable pub edgeNumber : ℕ → ℕ → ℕ → List ℕ → ℕ → ℕ
 edgeNumber n m s body k =
-    cond (eqb k 0) (codeOf (pinSource n m body clockEnablePin))
-    (cond (eqb k 1) (resetCode n m body)
-    (cond (eqb k 2) (codeOf (pinSource n m body writeEnablePin))
-    (cond (ltb k 9) (addressCode n m body (k - 3))
-    (cond (ltb k 17) (codeOf (flopSource n m s body (k - 9)))
-    (cond (eqb k 17) (setResetValues body)
-    (cond (ltb k 22) (tableKind body (k - 18))
-    (cond (ltb k 26) (dataCode n m body (k - 22)) 8)))))))
+    cond (eqb k enablePlace) (codeOf (pinSource n m body clockEnablePin))
+    (cond (eqb k resetPlace) (resetCode n m body)
+    (cond (eqb k writePlace) (codeOf (pinSource n m body writeEnablePin))
+    (cond (ltb k flopPlace) (addressCode n m body (k - addressPlace))
+    (cond (ltb k valuesPlace) (codeOf (flopSource n m s body (k - flopPlace)))
+    (cond (eqb k valuesPlace) (setResetValues body)
+    (cond (ltb k dataPlace) (tableKind body (k - kindPlace))
+    (cond (ltb k widthPlace) (dataCode n m body (k - dataPlace)) 8)))))))
 
 -- the numbers of slice s, whose record has that body, in a file of n slices and m outside inputs
 unfoldable pub edgeNumbers : ℕ → ℕ → ℕ → List ℕ → List ℕ

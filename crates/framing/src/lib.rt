@@ -9,10 +9,12 @@ ghost use Rattle.framing.specs.Framing.{headerRefusal, badSize, sliceRef
 use slicefile::END;
 use slicefile::END_TAG;
 use slicefile::HEAD;
+use slicefile::INPUT_COUNT;
 use slicefile::INPUT_LIMIT;
 use slicefile::SIZE_BODY;
 use slicefile::SIZE_TAG;
 use slicefile::SLICE_BODY;
+use slicefile::SLICE_COUNT;
 use slicefile::SLICE_LIMIT;
 use slicefile::SLICE_RECORD;
 use slicefile::SLICE_TAG;
@@ -81,8 +83,8 @@ pub fn size_refusal(s: &[u8]) -> usize
     if h != 0 {
         return h;
     }
-    let n = s[3] as usize;
-    let m = s[4] as usize;
+    let n = s[SLICE_COUNT] as usize;
+    let m = s[INPUT_COUNT] as usize;
     if bad_size(n, m) {
         return 5;
     }

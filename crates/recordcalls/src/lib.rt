@@ -5,6 +5,7 @@ ghost use Rattle.lent.specs.Lent.{was, left};
 ghost use Rattle.recordcalls.specs.Calls.{zeroRecord, recordRefusal, writeRefusal, answerOf, readRecord, written};
 use slicefile::Answer;
 use slicefile::HEAD;
+use slicefile::NUMBER;
 use slicefile::PIN_COUNT;
 use slicefile::SLICE_RECORD;
 use slicefile::SLICE_TAG;
@@ -47,7 +48,7 @@ fn record_refusal(n: usize, m: usize, s: &[u8]) -> usize
         return h;
     }
     let body = &s[HEAD..SLICE_RECORD];
-    let number = body[0] as usize;
+    let number = body[NUMBER] as usize;
     if n <= number {
         return 4;
     }

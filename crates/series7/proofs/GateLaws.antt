@@ -9,7 +9,7 @@ use Rattle.netlist.specs.declared.Source.{Source}
 use Rattle.netlist.specs.declared.Gate.{Gate}
 use Rattle.slicefile.specs.Format.{mode, carryData, carryStart, muxChoice, pinCode, bypassPin}
 use Rattle.slicefile.proofs.DriverLaws.{driver-cases}
-use Rattle.sources.specs.Sources.{outputSignal, decodedSource, pinSource, wideSignal}
+use Rattle.sources.specs.Sources.{outputSignal, decodedSource, pinSource, f7aSignal, f7bSignal, wideSignal}
 use Rattle.series7.specs.Signals.{muxSignal, pinsOf, o6Gate, o5Gate, mc31Gate, startSource, carryIn, carrySource, byBypass, wideGate, familyOf, familyGate, sliceGate}
 use Rattle.series7.specs.declared.Family.{Family}
 use Rattle.series7.specs.declared.Family.the-variants.{O6, O5, Carry, Sum, Wide, Mux, Main, Second}
@@ -83,7 +83,7 @@ module _ (n m s : ℕ) (body : List ℕ) (here : s < n) where
   wide-fits i =
       either Good (eqb i 0) (bypass-fits 0 0 1 (lit< tt) (lit< tt))
       (either Good (eqb i 1) (bypass-fits 2 2 3 (lit< tt) (lit< tt))
-      (either Good (eqb i 2) (bypass-fits 1 16 17 (lit< tt) (lit< tt)) (mc31-fits (eqb (mode body 0) 2) (4 * s) (omega arith))))
+      (either Good (eqb i 2) (bypass-fits 1 f7aSignal f7bSignal (lit< tt) (lit< tt)) (mc31-fits (eqb (mode body 0) 2) (4 * s) (omega arith))))
 
   family-fits : (f : Family) (l : ℕ) → l < 4 → Good (familyGate n m s body f l)
   unfolding familyGate GateFits

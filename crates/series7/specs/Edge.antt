@@ -10,17 +10,19 @@ use Rattle.netlist.specs.declared.Source.{Source}
 use Rattle.netlist.specs.declared.Source.the-variants.{Constant}
 use Rattle.slicefile.specs.Lists.{tabulate}
 use Rattle.slicefile.specs.Format.{mode, shiftData, mainInput, secondInput, setResetValues, setResetUsed, lutPin, bypassPin, clockEnablePin, setResetPin, writeEnablePin}
-use Rattle.sources.specs.Sources.{pinSource, own, wideSignal}
+use Rattle.sources.specs.Sources.{own, pinSource, o5Signal, carrySignal, sumSignal, wideSignal}
 
 -- what the main flip-flop of a letter takes: "0 O6, 1 O5, 2 sum, 3 carry, 4 wide, 5 bypass pin"
 unfoldable pub mainSource : ℕ → ℕ → ℕ → List ℕ → ℕ → Source
 mainSource n m s body l =
-    getD (own s l ∷ own s (4 + l) ∷ own s (12 + l) ∷ own s (8 + l) ∷ own s (wideSignal l) ∷ pinSource n m body (bypassPin l) ∷ []) (mainInput body l)
+    getD
+    (own s l ∷ own s (o5Signal l) ∷ own s (sumSignal l) ∷ own s (carrySignal l) ∷ own s (wideSignal l) ∷ pinSource n m body (bypassPin l) ∷ [])
+    (mainInput body l)
     (Constant false)
 
 -- what the second one takes: "0 O5, 1 bypass pin"
 unfoldable pub secondSource : ℕ → ℕ → ℕ → List ℕ → ℕ → Source
-secondSource n m s body l = cond (eqb (secondInput body l) 0) (own s (4 + l)) (pinSource n m body (bypassPin l))
+secondSource n m s body l = cond (eqb (secondInput body l) 0) (own s (o5Signal l)) (pinSource n m body (bypassPin l))
 
 -- bit b of the flip-flop byte: "bits 0-3 main A to D, 4-7 second"
 abbrev pub flopSource : ℕ → ℕ → ℕ → List ℕ → ℕ → Source

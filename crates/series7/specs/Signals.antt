@@ -9,14 +9,18 @@ use Rattle.netlist.specs.declared.Source.the-variants.{Constant}
 use Rattle.netlist.specs.declared.Gate.{Gate}
 use Rattle.netlist.specs.declared.Gate.the-variants.{Lut, ZeroOf, Select, Xor, Same, Stored}
 use Rattle.slicefile.specs.Format.{mode, carryData, carryStart, muxChoice, lutPin, bypassPin}
-use Rattle.sources.specs.Sources.{pinSource, own, wideSignal}
+use Rattle.sources.specs.Sources.{own, pinSource, o5Signal, carrySignal, sumSignal, secondSignal, f7aSignal, f7bSignal, wideSignal}
 use Rattle.series7.specs.declared.Pins.{Pins}
 use Rattle.series7.specs.declared.Family.{Family}
 use Rattle.series7.specs.declared.Family.the-variants.{O6, O5, Carry, Sum, Wide, Mux, Main, Second}
 
 -- what a MUX output may choose: O5, sum, carry, wide, second flip-flop
 abbrev pub muxSignal : ℕ → ℕ → ℕ
-muxSignal l choice = cond (eqb choice 0) (4 + l) (cond (eqb choice 1) (12 + l) (cond (eqb choice 2) (8 + l) (cond (eqb choice 3) (wideSignal l) (28 + l))))
+muxSignal l choice =
+    cond (eqb choice 0) (o5Signal l)
+    (cond (eqb choice 1) (sumSignal l)
+    (cond (eqb choice 2) (carrySignal l)
+    (cond (eqb choice 3) (wideSignal l) (secondSignal l))))
 
 -- the six pins of a letter's table
 unfoldable pub pinsOf : ℕ → ℕ → List ℕ → ℕ → Pins
@@ -47,7 +51,7 @@ mc31Gate true t = Lut t (Constant true) (Constant true) (Constant true) (Constan
 
 -- the carry start: zero, one, pin AX, the D carry of slice s-1
 unfoldable pub startSource : ℕ → ℕ → Source → Source
-startSource choice s ax = cond (eqb choice 0) (Constant false) (cond (eqb choice 1) (Constant true) (cond (eqb choice 2) ax (own (s - 1) 11)))
+startSource choice s ax = cond (eqb choice 0) (Constant false) (cond (eqb choice 1) (Constant true) (cond (eqb choice 2) ax (own (s - 1) (carrySignal 3))))
 
 -- the carry coming into a letter: the carry start into A, "into B, C, D the carry of the letter before"
 unfoldable pub carryIn : ℕ → ℕ → ℕ → List ℕ → ℕ → Source
@@ -55,7 +59,7 @@ carryIn n m s body l = cond (eqb l 0) (startSource (carryStart body) s (pinSourc
 
 -- "the carry data": O5 or the bypass pin
 unfoldable pub carrySource : ℕ → ℕ → ℕ → List ℕ → ℕ → Source
-carrySource n m s body l = cond (eqb (carryData body l) 0) (own s (4 + l)) (pinSource n m body (bypassPin l))
+carrySource n m s body l = cond (eqb (carryData body l) 0) (own s (o5Signal l)) (pinSource n m body (bypassPin l))
 
 -- signals 16-18, a multiplexer by a bypass pin: "AX 1 gives A's O6, 0 gives B's"
 abbrev pub byBypass : ℕ → ℕ → ℕ → List ℕ → ℕ → ℕ → ℕ → Gate
@@ -66,7 +70,7 @@ unfoldable pub wideGate : ℕ → ℕ → ℕ → List ℕ → ℕ → Gate
 wideGate n m s body i =
     cond (eqb i 0) (byBypass n m s body 0 0 1)
     (cond (eqb i 1) (byBypass n m s body 2 2 3)
-    (cond (eqb i 2) (byBypass n m s body 1 16 17)
+    (cond (eqb i 2) (byBypass n m s body 1 f7aSignal f7bSignal)
     (mc31Gate (eqb (mode body 0) 2) (4 * s))))
 
 -- the family of signal k of a slice, four signals each

@@ -1,13 +1,30 @@
 // The slice of the 7 series as gates: what each of its 32 signals reads, from the body of its record.
 ghost use mathlib.Core.Path.{_≡_};
 ghost use Prim.Native.Nat.{_+_, _*_, _<_, _≤_};
-ghost use lib.ListN.{length};
 ghost use Rattle.lent.specs.Lent.{was};
-ghost use Rattle.slicefile.specs.Format.{carryStart, muxChoice, bypassPin};
-ghost use Rattle.sources.specs.Sources.{columnLimit, pinSource, own};
+ghost use Rattle.netlist.specs.Table.{sliceSignals};
+ghost use Rattle.slicefile.specs.Format.{HoldsSlice, carryStart, muxChoice, bypassPin};
+ghost use Rattle.sources.specs.Sources.{columnLimit, own, pinSource};
 ghost use Rattle.series7.specs.Signals.{muxSignal, pinsOf, o6Gate, o5Gate, mc31Gate, startSource, carryIn, carrySource, byBypass, wideGate, familyOf, familyGate, sliceGate};
 use netlist::Gate;
 use netlist::Source;
+use slicefile::BYPASS_PIN;
+use slicefile::CARRY_DATA;
+use slicefile::CARRY_START;
+use slicefile::MODE;
+use slicefile::MUX;
+use slicefile::TABLE_PINS;
+use sources::CARRY_SIGNAL;
+use sources::F7A_SIGNAL;
+use sources::F7B_SIGNAL;
+use sources::O5_SIGNAL;
+use sources::SECOND_SIGNAL;
+use sources::SUM_SIGNAL;
+
+// A slice's last carry, D's; and what to add to a letter for the carry of the letter before.
+const CARRY_OUT: usize = CARRY_SIGNAL + 3;
+
+const CARRY_BEFORE: usize = CARRY_SIGNAL - 1;
 
 // The six pins of a look-up table.
 pub struct Pins {
@@ -33,10 +50,10 @@ pub enum Family {
 
 // Where a slice's carry chain starts.
 fn start_source(n: usize, m: usize, s: usize, body: &[u8]) -> Source
-    requires { ⌜ (length (now body) ≡ 124) × (n ≤ columnLimit) × (s < columnLimit) ⌝ }
+    requires { ⌜ HoldsSlice (now body) × (n ≤ columnLimit) × (s < columnLimit) ⌝ }
     ensures { λ r. ⌜ r ≡ startSource (carryStart (was body)) s (pinSource n m (was body) (bypassPin 0)) ⌝ }
 {
-    let choice = body[46];
+    let choice = body[CARRY_START];
     if choice == 0 {
         return Source::Constant(false);
     }
@@ -44,47 +61,47 @@ fn start_source(n: usize, m: usize, s: usize, body: &[u8]) -> Source
         return Source::Constant(true);
     }
     if choice == 2 {
-        return sources::pin_source(n, m, body, 24);
+        return sources::pin_source(n, m, body, BYPASS_PIN);
     }
     if s == 0 {
-        return sources::own(0, 11);
+        return sources::own(0, CARRY_OUT);
     }
-    sources::own(s - 1, 11)
+    sources::own(s - 1, CARRY_OUT)
 }
 
 // The carry coming into a letter.
 fn carry_in(n: usize, m: usize, s: usize, body: &[u8], l: usize) -> Source
-    requires { ⌜ (length (now body) ≡ 124) × (n ≤ columnLimit) × (s < columnLimit) × (l < 4) ⌝ }
+    requires { ⌜ HoldsSlice (now body) × (n ≤ columnLimit) × (s < columnLimit) × (l < 4) ⌝ }
     ensures { λ r. ⌜ r ≡ carryIn n m s (was body) l ⌝ }
 {
     if l == 0 {
         return start_source(n, m, s, body);
     }
-    sources::own(s, 7 + l)
+    sources::own(s, CARRY_BEFORE + l)
 }
 
 // A letter's carry data.
 fn carry_source(n: usize, m: usize, s: usize, body: &[u8], l: usize) -> Source
-    requires { ⌜ (length (now body) ≡ 124) × (n ≤ columnLimit) × (s < columnLimit) × (l < 4) ⌝ }
+    requires { ⌜ HoldsSlice (now body) × (n ≤ columnLimit) × (s < columnLimit) × (l < 4) ⌝ }
     ensures { λ r. ⌜ r ≡ carrySource n m s (was body) l ⌝ }
 {
-    if body[42 + l] == 0 {
-        return sources::own(s, 4 + l);
+    if body[CARRY_DATA + l] == 0 {
+        return sources::own(s, O5_SIGNAL + l);
     }
-    sources::pin_source(n, m, body, 24 + l)
+    sources::pin_source(n, m, body, BYPASS_PIN + l)
 }
 
 // The six pins of a letter's table.
 fn table_pins(n: usize, m: usize, body: &[u8], l: usize) -> Pins
-    requires { ⌜ (length (now body) ≡ 124) × (n ≤ columnLimit) × (l < 4) ⌝ }
+    requires { ⌜ HoldsSlice (now body) × (n ≤ columnLimit) × (l < 4) ⌝ }
     ensures { λ r. ⌜ r ≡ pinsOf n m (was body) l ⌝ }
 {
-    let p1 = sources::pin_source(n, m, body, 6 * l);
-    let p2 = sources::pin_source(n, m, body, 6 * l + 1);
-    let p3 = sources::pin_source(n, m, body, 6 * l + 2);
-    let p4 = sources::pin_source(n, m, body, 6 * l + 3);
-    let p5 = sources::pin_source(n, m, body, 6 * l + 4);
-    let p6 = sources::pin_source(n, m, body, 6 * l + 5);
+    let p1 = sources::pin_source(n, m, body, TABLE_PINS * l);
+    let p2 = sources::pin_source(n, m, body, TABLE_PINS * l + 1);
+    let p3 = sources::pin_source(n, m, body, TABLE_PINS * l + 2);
+    let p4 = sources::pin_source(n, m, body, TABLE_PINS * l + 3);
+    let p5 = sources::pin_source(n, m, body, TABLE_PINS * l + 4);
+    let p6 = sources::pin_source(n, m, body, TABLE_PINS * l + 5);
     Pins {
         p1,
         p2,
@@ -168,10 +185,10 @@ fn mc31_gate(shift: bool, table: usize) -> Gate
 
 // A multiplexer by a letter's bypass pin.
 fn by_bypass(n: usize, m: usize, s: usize, body: &[u8], l: usize, one: usize, other: usize) -> Gate
-    requires { ⌜ (length (now body) ≡ 124) × (n ≤ columnLimit) × (s < columnLimit) × (l < 4) × (one < 32) × (other < 32) ⌝ }
+    requires { ⌜ HoldsSlice (now body) × (n ≤ columnLimit) × (s < columnLimit) × (l < 4) × (one < sliceSignals) × (other < sliceSignals) ⌝ }
     ensures { λ r. ⌜ r ≡ byBypass n m s (was body) l one other ⌝ }
 {
-    let select = sources::pin_source(n, m, body, 24 + l);
+    let select = sources::pin_source(n, m, body, BYPASS_PIN + l);
     let a = sources::own(s, one);
     let b = sources::own(s, other);
     Gate::Select {
@@ -183,7 +200,7 @@ fn by_bypass(n: usize, m: usize, s: usize, body: &[u8], l: usize, one: usize, ot
 
 // Signals 16 to 19.
 fn wide_gate(n: usize, m: usize, s: usize, body: &[u8], i: usize) -> Gate
-    requires { ⌜ (length (now body) ≡ 124) × (n ≤ columnLimit) × (s < columnLimit) ⌝ }
+    requires { ⌜ HoldsSlice (now body) × (n ≤ columnLimit) × (s < columnLimit) ⌝ }
     ensures { λ r. ⌜ r ≡ wideGate n m s (was body) i ⌝ }
 {
     if i == 0 {
@@ -193,9 +210,9 @@ fn wide_gate(n: usize, m: usize, s: usize, body: &[u8], i: usize) -> Gate
         return by_bypass(n, m, s, body, 2, 2, 3);
     }
     if i == 2 {
-        return by_bypass(n, m, s, body, 1, 16, 17);
+        return by_bypass(n, m, s, body, 1, F7A_SIGNAL, F7B_SIGNAL);
     }
-    mc31_gate(body[2] == 2, 4 * s)
+    mc31_gate(body[MODE] == 2, 4 * s)
 }
 
 // The family of signal k of a slice.
@@ -228,12 +245,12 @@ fn family_of(k: usize) -> Family
 
 // The gate of a letter's signal in a family.
 fn family_gate(n: usize, m: usize, s: usize, body: &[u8], f: Family, l: usize) -> Gate
-    requires { ⌜ (length (now body) ≡ 124) × (n ≤ columnLimit) × (s < columnLimit) × (l < 4) ⌝ }
+    requires { ⌜ HoldsSlice (now body) × (n ≤ columnLimit) × (s < columnLimit) × (l < 4) ⌝ }
     ensures { λ r. ⌜ r ≡ familyGate n m s (was body) f l ⌝ }
 {
     match f {
-        Family::O6 => o6_gate(body[2 + l] == 2, 4 * s + l, table_pins(n, m, body, l)),
-        Family::O5 => o5_gate(body[2 + l] == 2, 4 * s + l, table_pins(n, m, body, l)),
+        Family::O6 => o6_gate(body[MODE + l] == 2, 4 * s + l, table_pins(n, m, body, l)),
+        Family::O5 => o5_gate(body[MODE + l] == 2, 4 * s + l, table_pins(n, m, body, l)),
         Family::Carry => carry_gate(n, m, s, body, l),
         Family::Sum => sum_gate(n, m, s, body, l),
         Family::Wide => wide_gate(n, m, s, body, l),
@@ -244,7 +261,7 @@ fn family_gate(n: usize, m: usize, s: usize, body: &[u8], f: Family, l: usize) -
 }
 
 fn carry_gate(n: usize, m: usize, s: usize, body: &[u8], l: usize) -> Gate
-    requires { ⌜ (length (now body) ≡ 124) × (n ≤ columnLimit) × (s < columnLimit) × (l < 4) ⌝ }
+    requires { ⌜ HoldsSlice (now body) × (n ≤ columnLimit) × (s < columnLimit) × (l < 4) ⌝ }
     ensures { λ r. ⌜ r ≡ familyGate n m s (was body) Family.Carry l ⌝ }
 {
     let select = sources::own(s, l);
@@ -254,7 +271,7 @@ fn carry_gate(n: usize, m: usize, s: usize, body: &[u8], l: usize) -> Gate
 }
 
 fn sum_gate(n: usize, m: usize, s: usize, body: &[u8], l: usize) -> Gate
-    requires { ⌜ (length (now body) ≡ 124) × (n ≤ columnLimit) × (s < columnLimit) × (l < 4) ⌝ }
+    requires { ⌜ HoldsSlice (now body) × (n ≤ columnLimit) × (s < columnLimit) × (l < 4) ⌝ }
     ensures { λ r. ⌜ r ≡ familyGate n m s (was body) Family.Sum l ⌝ }
 {
     let a = sources::own(s, l);
@@ -264,34 +281,34 @@ fn sum_gate(n: usize, m: usize, s: usize, body: &[u8], l: usize) -> Gate
 
 fn mux_signal(l: usize, choice: u8) -> usize
     requires { ⌜ l < 4 ⌝ }
-    ensures { λ r. ⌜ (r ≡ muxSignal l choice) × (r < 32) ⌝ }
+    ensures { λ r. ⌜ (r ≡ muxSignal l choice) × (r < sliceSignals) ⌝ }
 {
     if choice == 0 {
-        return 4 + l;
+        return O5_SIGNAL + l;
     }
     if choice == 1 {
-        return 12 + l;
+        return SUM_SIGNAL + l;
     }
     if choice == 2 {
-        return 8 + l;
+        return CARRY_SIGNAL + l;
     }
     if choice == 3 {
         return sources::wide_signal(l);
     }
-    28 + l
+    SECOND_SIGNAL + l
 }
 
 fn mux_gate(s: usize, body: &[u8], l: usize) -> Gate
-    requires { ⌜ (length (now body) ≡ 124) × (s < columnLimit) × (l < 4) ⌝ }
+    requires { ⌜ HoldsSlice (now body) × (s < columnLimit) × (l < 4) ⌝ }
     ensures { λ r. ⌜ r ≡ Gate.Same (own s (muxSignal l (muxChoice (was body) l))) ⌝ }
 {
-    let k = mux_signal(l, body[47 + l]);
+    let k = mux_signal(l, body[MUX + l]);
     Gate::Same(sources::own(s, k))
 }
 
 // The gate of signal k of slice s, whose record has that body, in a file of n slices and m outside inputs.
 pub fn gate_at(n: usize, m: usize, s: usize, body: &[u8], k: usize) -> Gate
-    requires { ⌜ (length (now body) ≡ 124) × (n ≤ columnLimit) × (s < n) × (k < 32) ⌝ }
+    requires { ⌜ HoldsSlice (now body) × (n ≤ columnLimit) × (s < n) × (k < sliceSignals) ⌝ }
     ensures { λ r. ⌜ r ≡ sliceGate n m s (was body) k ⌝ }
 {
     family_gate(n, m, s, body, family_of(k), k % 4)

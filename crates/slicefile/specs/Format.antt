@@ -1,10 +1,10 @@
 -- The slice file's records: "one tag byte, two length bytes (low byte first), body", their tags and lengths, the limits, and the fields of a
 -- slice's body by letter (A to D count 0 to 3) or pin.
-use Prim.Native.Nat.{ℕ, _+_, _*_}
+use Prim.Native.Nat.{ℕ, _+_, _*_, _≤_}
 use mathlib.Core.Bool.{cond}
 use mathlib.Core.List.{List, [], _∷_}
 use lib.Dec.{eqb}
-use lib.ListN.{getD, take, drop}
+use lib.ListN.{length, getD, take, drop}
 use Rattle.slicefile.specs.Lists.{digits}
 
 -- "slice count n (1 to 64), outside inputs m (0 to 64)"
@@ -50,6 +50,10 @@ pairAt s i = byteAt s i + 256 * byteAt s (i + 1)
 -- the body of the record of a tag that begins the list
 abbrev pub bodyOf : ℕ → List ℕ → List ℕ
 bodyOf tag s = take (bodyLength tag) (drop headLength s)
+
+-- bytes that hold a slice's body: all of it, whatever follows
+abbrev pub HoldsSlice : List ℕ → Type 0
+HoldsSlice body = bodyLength sliceTag ≤ length body
 
 -- bytes 0, 1: the slice's number; 0 SLICEL, 1 SLICEM
 abbrev pub numberByte : List ℕ → ℕ

@@ -3,7 +3,7 @@ ghost use mathlib.Core.Path.{_≡_};
 ghost use Prim.Native.Nat.{_+_, _<_};
 ghost use lib.ListN.{length};
 ghost use Rattle.lent.specs.Lent.{was};
-ghost use Rattle.slicefile.specs.Format.{pairAt, contentsWord};
+ghost use Rattle.slicefile.specs.Format.{pairAt, HoldsSlice, contentsWord, pinCount, pinCode};
 ghost use Rattle.slicefile.specs.Driver.{driverOf};
 
 // The most slices and outside inputs of a file.
@@ -29,8 +29,62 @@ pub const SIZE_RECORD: usize = HEAD + SIZE_BODY;
 
 pub const SLICE_RECORD: usize = HEAD + SLICE_BODY;
 
-// The pins of a slice, two bytes each.
+// Where a file's slice count and outside inputs stand: the size record's body.
+pub const SLICE_COUNT: usize = HEAD;
+
+pub const INPUT_COUNT: usize = HEAD + 1;
+
+// Offsets in a slice's body; where there is one a letter, that of letter A.
+pub const NUMBER: usize = 0;
+
+pub const KIND: usize = 1;
+
+pub const MODE: usize = 2;
+
+pub const SHIFT_DATA: usize = 6;
+
+pub const CONTENTS: usize = 10;
+
+pub const CARRY_DATA: usize = 42;
+
+pub const CARRY_START: usize = 46;
+
+pub const MUX: usize = 47;
+
+pub const MAIN: usize = 51;
+
+pub const SECOND: usize = 55;
+
+pub const POWER_UP: usize = 59;
+
+pub const SET_RESET_VALUES: usize = 60;
+
+pub const SET_RESET_USED: usize = 61;
+
+pub const PINS: usize = 62;
+
+// The bytes of a contents word and of a pin's code.
+pub const WORD: usize = 8;
+
+pub const CODE: usize = 2;
+
+// The pins in their order: six of each letter's table, the bypass pins AX to DX, CE, SR, WE.
 pub const PIN_COUNT: usize = 31;
+
+pub const TABLE_PINS: usize = 6;
+
+pub const BYPASS_PIN: usize = 24;
+
+pub const CE_PIN: usize = 28;
+
+pub const SR_PIN: usize = 29;
+
+pub const WE_PIN: usize = 30;
+
+// What the other letters' memory goes by: D's mode and the pins of its table.
+pub const MODE_D: usize = MODE + 3;
+
+pub const PINS_D: usize = TABLE_PINS * 3;
 
 // The end record.
 pub const END: [u8; 3] = *b"\x03\x00\x00";
@@ -96,14 +150,14 @@ fn wide(x: u8) -> u64
 
 // A letter's contents word in a slice's body, low byte first.
 pub fn contents_word(body: &[u8], l: usize) -> u64
-    requires { ⌜ (length (now body) ≡ 124) × (l < 4) ⌝ }
+    requires { ⌜ HoldsSlice (now body) × (l < 4) ⌝ }
     ensures { λ r. ⌜ r ≡ contentsWord (was body) l ⌝ }
 {
     let mut w: u64 = 0;
-    let mut i: usize = 8;
+    let mut i: usize = WORD;
     while 0 < i {
         i -= 1;
-        w = w * 256 + wide(body[10 + 8 * l + i]);
+        w = w * 256 + wide(body[CONTENTS + WORD * l + i]);
     }
     w
 }
@@ -120,4 +174,12 @@ pub fn pair_at(s: &[u8], i: usize) -> u16
     ensures { λ r. ⌜ r ≡ pairAt (was s) i ⌝ }
 {
     wide16(s[i]) + 256 * wide16(s[i + 1])
+}
+
+// The driver code of pin p in a slice's body.
+pub fn pin_code(body: &[u8], p: usize) -> u16
+    requires { ⌜ HoldsSlice (now body) × (p < pinCount) ⌝ }
+    ensures { λ r. ⌜ r ≡ pinCode (was body) p ⌝ }
+{
+    pair_at(body, PINS + CODE * p)
 }

@@ -41,7 +41,7 @@ stored-all {out} {xs} {now} {k} s h = s .held ∙ sets-front out xs k (s .count)
 
 -- the fields stored one after another are the record's bytes
 pub encoded : (r : Record) → Sized r → {o₁ o₂ o₃ o₄ o₅ o₆ o₇ o₈ o₉ o₁₀ o₁₁ : List ℕ}
-    → o₁ ≡ sets (replicate (recordLength sliceTag) 0) 0 (2 ∷ 124 ∷ 0 ∷ r .number ∷ r .kind ∷ [])
+    → o₁ ≡ sets (replicate (recordLength sliceTag) 0) 0 (sliceTag ∷ bodyLength sliceTag ∷ 0 ∷ r .number ∷ r .kind ∷ [])
     → o₂ ≡ sets o₁ 5 (r .modes)
     → o₃ ≡ sets o₂ 9 (r .shifts)
     → o₄ ≡ sets o₃ 13 (allBytes 8 (r .contents))
@@ -55,7 +55,7 @@ pub encoded : (r : Record) → Sized r → {o₁ o₂ o₃ o₄ o₅ o₆ o₇ o
     → o₁₁ ≡ recordBytes r
 unfolding recordBytes bodyBytes
 encoded r z e₁ e₂ e₃ e₄ e₅ e₆ e₇ e₈ e₉ e₁₀ e₁₁ =
-    let s₁ : Stored (replicate (recordLength sliceTag) 0) 5 (2 ∷ 124 ∷ 0 ∷ r .number ∷ r .kind ∷ []) _ = record { count = refl; held = e₁ } in
+    let s₁ : Stored (replicate (recordLength sliceTag) 0) 5 (sliceTag ∷ bodyLength sliceTag ∷ 0 ∷ r .number ∷ r .kind ∷ []) _ = record { count = refl; held = e₁ } in
     let s₂ = stored-next 4 (r .modes) s₁ (z .modes) e₂ in
     let s₃ = stored-next 4 (r .shifts) s₂ (z .shifts) e₃ in
     let s₄ = stored-next 32 (allBytes 8 (r .contents)) s₃ (rw (length-allBytes 8 (r .contents), z .contents)) e₄ in

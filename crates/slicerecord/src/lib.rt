@@ -4,11 +4,56 @@ ghost use Prim.Native.Nat.{_+_, _*_, _≤_};
 ghost use lib.ListN.{length};
 ghost use lib.Seq.{sets};
 ghost use Rattle.lent.specs.Lent.{was, left};
-ghost use Rattle.slicefile.specs.Format.{pinCount, byteAt, pinCode};
+ghost use Rattle.slicefile.specs.Format.{byteAt, HoldsSlice, pinCount, pinCode};
 ghost use Rattle.slicefile.specs.Lists.{tabulate};
 ghost use Rattle.slicerecord.specs.Record.{letters, recordOf, bytesOf, allBytes, recordBytes};
+use slicefile::CARRY_DATA;
+use slicefile::CARRY_START;
+use slicefile::CODE;
+use slicefile::CONTENTS;
+use slicefile::HEAD;
+use slicefile::KIND;
+use slicefile::MAIN;
+use slicefile::MODE;
+use slicefile::MUX;
+use slicefile::NUMBER;
 use slicefile::PIN_COUNT;
+use slicefile::PINS;
+use slicefile::POWER_UP;
+use slicefile::SECOND;
+use slicefile::SET_RESET_USED;
+use slicefile::SET_RESET_VALUES;
+use slicefile::SHIFT_DATA;
+use slicefile::SLICE_BODY;
 use slicefile::SLICE_RECORD;
+use slicefile::SLICE_TAG;
+use slicefile::WORD;
+
+// The header of a slice's record.
+const TAG: u8 = SLICE_TAG as u8;
+
+const LENGTH: u8 = SLICE_BODY as u8;
+
+// Where the fields stand in a whole record, after its header.
+const MODES_AT: usize = HEAD + MODE;
+
+const SHIFTS_AT: usize = HEAD + SHIFT_DATA;
+
+const CONTENTS_AT: usize = HEAD + CONTENTS;
+
+const CARRIES_AT: usize = HEAD + CARRY_DATA;
+
+const START_AT: usize = HEAD + CARRY_START;
+
+const MUXES_AT: usize = HEAD + MUX;
+
+const MAINS_AT: usize = HEAD + MAIN;
+
+const SECONDS_AT: usize = HEAD + SECOND;
+
+const POWERUP_AT: usize = HEAD + POWER_UP;
+
+const PINS_AT: usize = HEAD + PINS;
 
 // A slice record as raw fields: choices and bits as their bytes, contents as words, pins as driver codes.
 pub struct Record {
@@ -44,13 +89,13 @@ fn letter_bytes(body: &[u8], at: usize) -> [u8; 4]
 
 // The driver codes of a body's pins.
 fn pin_codes(body: &[u8]) -> [u16; PIN_COUNT]
-    requires { ⌜ length (now body) ≡ 124 ⌝ }
+    requires { ⌜ HoldsSlice (now body) ⌝ }
     ensures { λ r. ⌜ r ≡ tabulate 0 pinCount (pinCode (was body)) ⌝ }
 {
     let mut codes = [0u16; PIN_COUNT];
     let mut p = 0;
     while p < PIN_COUNT {
-        codes[p] = slicefile::pair_at(body, 62 + 2 * p);
+        codes[p] = slicefile::pin_code(body, p);
         p += 1;
     }
     codes
@@ -58,7 +103,7 @@ fn pin_codes(body: &[u8]) -> [u16; PIN_COUNT]
 
 // The record that a slice's body holds.
 pub fn decode(body: &[u8]) -> Record
-    requires { ⌜ length (now body) ≡ 124 ⌝ }
+    requires { ⌜ HoldsSlice (now body) ⌝ }
     ensures { λ r. ⌜ r ≡ recordOf (was body) ⌝ }
 {
     let contents = [
@@ -67,27 +112,27 @@ pub fn decode(body: &[u8]) -> Record
         slicefile::contents_word(body, 2),
         slicefile::contents_word(body, 3),
     ];
-    let modes = letter_bytes(body, 2);
-    let shifts = letter_bytes(body, 6);
-    let carries = letter_bytes(body, 42);
-    let muxes = letter_bytes(body, 47);
-    let mains = letter_bytes(body, 51);
-    let seconds = letter_bytes(body, 55);
+    let modes = letter_bytes(body, MODE);
+    let shifts = letter_bytes(body, SHIFT_DATA);
+    let carries = letter_bytes(body, CARRY_DATA);
+    let muxes = letter_bytes(body, MUX);
+    let mains = letter_bytes(body, MAIN);
+    let seconds = letter_bytes(body, SECOND);
     let pins = pin_codes(body);
     Record {
-        number: body[0],
-        kind: body[1],
+        number: body[NUMBER],
+        kind: body[KIND],
         modes,
         shifts,
         contents,
         carries,
-        start: body[46],
+        start: body[CARRY_START],
         muxes,
         mains,
         seconds,
-        powerup: body[59],
-        resets: body[60],
-        resettable: body[61],
+        powerup: body[POWER_UP],
+        resets: body[SET_RESET_VALUES],
+        resettable: body[SET_RESET_USED],
         pins,
     }
 }
@@ -125,7 +170,7 @@ fn put_words(out: &mut [u8], at: usize, words: &[u64])
 {
     let mut i = 0;
     while i < words.len() {
-        put_number(out, at + 8 * i, 8, words[i]);
+        put_number(out, at + WORD * i, WORD, words[i]);
         i += 1;
     }
 }
@@ -137,7 +182,7 @@ fn put_codes(out: &mut [u8], at: usize, codes: &[u16])
 {
     let mut i = 0;
     while i < codes.len() {
-        put_number(out, at + 2 * i, 2, codes[i] as u64);
+        put_number(out, at + CODE * i, CODE, codes[i] as u64);
         i += 1;
     }
 }
@@ -155,20 +200,20 @@ pub fn encode(slice: Record) -> [u8; SLICE_RECORD]
     let mains = slice.mains;
     let seconds = slice.seconds;
     let pins = slice.pins;
-    put_bytes(&mut out, 0, &[2, 124, 0, slice.number, slice.kind]);
-    put_bytes(&mut out, 5, &modes);
-    put_bytes(&mut out, 9, &shifts);
-    put_words(&mut out, 13, &contents);
-    put_bytes(&mut out, 45, &carries);
-    put_bytes(&mut out, 49, &[slice.start]);
-    put_bytes(&mut out, 50, &muxes);
-    put_bytes(&mut out, 54, &mains);
-    put_bytes(&mut out, 58, &seconds);
+    put_bytes(&mut out, 0, &[TAG, LENGTH, 0, slice.number, slice.kind]);
+    put_bytes(&mut out, MODES_AT, &modes);
+    put_bytes(&mut out, SHIFTS_AT, &shifts);
+    put_words(&mut out, CONTENTS_AT, &contents);
+    put_bytes(&mut out, CARRIES_AT, &carries);
+    put_bytes(&mut out, START_AT, &[slice.start]);
+    put_bytes(&mut out, MUXES_AT, &muxes);
+    put_bytes(&mut out, MAINS_AT, &mains);
+    put_bytes(&mut out, SECONDS_AT, &seconds);
     put_bytes(
         &mut out,
-        62,
+        POWERUP_AT,
         &[slice.powerup, slice.resets, slice.resettable],
     );
-    put_codes(&mut out, 65, &pins);
+    put_codes(&mut out, PINS_AT, &pins);
     out
 }

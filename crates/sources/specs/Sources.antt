@@ -4,6 +4,7 @@ use Prim.Native.Nat.{ℕ, _+_, _*_}
 use mathlib.Core.Bool.{false, cond}
 use mathlib.Core.List.{List}
 use lib.Dec.{ltb, eqb}
+use Rattle.netlist.specs.Table.{sliceSignals}
 use Rattle.netlist.specs.declared.Source.{Source}
 use Rattle.netlist.specs.declared.Source.the-variants.{Constant, Input, Signal}
 use Rattle.slicefile.specs.Format.{pinCode}
@@ -17,6 +18,10 @@ use Rattle.slicefile.specs.declared.Decoded.the-variants.{Driven, Missing}
 abbrev pub columnLimit : ℕ
 columnLimit = 1024
 
+-- signal k of slice s
+abbrev pub own : ℕ → ℕ → Source
+own s k = Signal (sliceSignals * s + k)
+
 -- the signal that is output k of its slice: "k 0-3 the outputs A to D (O6), 4-7 AMUX to DMUX, 8-11 AQ to DQ", which are signals 0-3, 20-23, 24-27
 abbrev pub outputSignal : ℕ → ℕ
 outputSignal k = cond (ltb k 4) k (k + 16)
@@ -25,7 +30,7 @@ outputSignal k = cond (ltb k 4) k (k + 16)
 abbrev pub driverSource : Driver → Source
 driverSource (driver.Constant b) = Constant b
 driverSource (driver.Input j) = Input j
-driverSource (driver.Output o) = Signal (32 * o .slice + outputSignal (o .output))
+driverSource (driver.Output o) = own (o .slice) (outputSignal (o .output))
 
 -- a file with a missing driver is refused and has no netlist
 abbrev pub decodedSource : Decoded → Source
@@ -35,10 +40,32 @@ decodedSource Missing = Constant false
 unfoldable pub pinSource : ℕ → ℕ → List ℕ → ℕ → Source
 pinSource n m body p = decodedSource (driverOf (pinCode body p) n m)
 
--- signal k of slice s
-abbrev pub own : ℕ → ℕ → Source
-own s k = Signal (32 * s + k)
+-- the signals of a letter beside its O6, which is signal l: O5, carry, sum, second flip-flop
+abbrev pub o5Signal : ℕ → ℕ
+o5Signal l = 4 + l
+
+abbrev pub carrySignal : ℕ → ℕ
+carrySignal l = 8 + l
+
+abbrev pub sumSignal : ℕ → ℕ
+sumSignal l = 12 + l
+
+abbrev pub secondSignal : ℕ → ℕ
+secondSignal l = 28 + l
+
+-- the wide multiplexers F7A, F7B and F8, and MC31
+abbrev pub f7aSignal : ℕ
+f7aSignal = 16
+
+abbrev pub f7bSignal : ℕ
+f7bSignal = 17
+
+abbrev pub f8Signal : ℕ
+f8Signal = 18
+
+abbrev pub mc31Signal : ℕ
+mc31Signal = 19
 
 -- "wide" is F7A, F8, F7B, MC31 for A, B, C, D
 abbrev pub wideSignal : ℕ → ℕ
-wideSignal l = cond (eqb l 0) 16 (cond (eqb l 1) 18 (cond (eqb l 2) 17 19))
+wideSignal l = cond (eqb l 0) f7aSignal (cond (eqb l 1) f8Signal (cond (eqb l 2) f7bSignal mc31Signal))

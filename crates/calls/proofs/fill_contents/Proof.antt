@@ -38,7 +38,7 @@ slice-body-requires c κs = (c .before .before .before .before .pre .0, omega ar
 contents-word-requires : tie.Need-contents-word-requires Inv-loop μ-loop
 contents-word-requires c κs =
     let b = c .before .before .before .before .before in
-    (ap length (c .slice-body .ensures) ∙ body-length (b .args .file .now) (fine b) (c .before .before .loop .t / 4) (omega arith), omega arith)
+    (omega (arith, ap length (c .slice-body .ensures), body-length (b .args .file .now) (fine b) (c .before .before .loop .t / 4) (omega arith)), omega arith)
 
 mul-contents : tie.Need-mul-contents Inv-loop μ-loop
 mul-contents c = search needs

@@ -1,9 +1,10 @@
 -- `column::signal_gate` meets its contract. Assumes nothing.
-use mathlib.Core.Path.{_∙_, ap}
+use mathlib.Core.Path.{ap}
 use Prim.Native.Nat.{_/_}
 use native.Mathlib.Omega.{arith}
 use borrow.Author.Needs.{needs}
 use lib.ListN.{length}
+use Rattle.netlist.specs.Table.{sliceSignals}
 use Rattle.column.specs.File.{gateAt}
 use Rattle.column.proofs.SoundLaws.{SoundFile, sound-file, body-length}
 use Rattle.column.proofs.signal_gate.Statement.{statement}
@@ -19,7 +20,7 @@ gate-at-requires : tie.Need-gate-at-requires
 gate-at-requires c κs =
     let b = c .before .before in
     let f = fine b in
-    (ap length (c .slice-body .ensures) ∙ body-length _ f (b .args .x / 32) (omega arith), omega (arith, f .slices-fit), omega arith, omega arith)
+    (omega (arith, ap length (c .slice-body .ensures), body-length _ f (b .args .x / sliceSignals) (omega arith)), omega (arith, f .slices-fit), omega arith, omega arith)
 
 returns : tie.Need-returns
 unfolding gateAt

@@ -21,20 +21,14 @@ abbrev Inv-loop : tie.InvT-loop
 Inv-loop n m body found₀ p₀ found p = (p ≤ pinCount) × (found ≡ anyBelow p (undriven n m body))
 
 abbrev μ-loop : tie.MeasureT-loop
-μ-loop n m body found₀ p₀ found p = 31 - p
+μ-loop n m body found₀ p₀ found p = pinCount - p
 
 loop-holds : tie.Need-loop-holds Inv-loop μ-loop
 unfolding anyBelow
 loop-holds c = (search needs, refl)
 
-mul-pair-at : tie.Need-mul-pair-at Inv-loop μ-loop
-mul-pair-at c = search needs
-
-add-pair-at : tie.Need-add-pair-at Inv-loop μ-loop
-add-pair-at c = search needs
-
-pair-at-requires : tie.Need-pair-at-requires Inv-loop μ-loop
-pair-at-requires c κs = search needs
+pin-code-requires : tie.Need-pin-code-requires Inv-loop μ-loop
+pin-code-requires c κs = search needs
 
 decode-driver-requires : tie.Need-decode-driver-requires Inv-loop μ-loop
 decode-driver-requires c κs = search needs
@@ -53,7 +47,7 @@ loop-again c =
     let a = c .before .before .before .before .before .before .args in (
       search needs,
       any-next _ _
-          (c .is-missing .ensures ∙ ap missing (c .before .decode-driver .ensures ∙ ap (λ (k : ℕ). driverOf k (a .n) (a .m)) (c .before .before .pair-at .ensures)))
+          (c .is-missing .ensures ∙ ap missing (c .before .decode-driver .ensures ∙ ap (λ (k : ℕ). driverOf k (a .n) (a .m)) (c .before .before .pin-code .ensures)))
           (c .before .before .before .before .loop .inv .1),
     )
 
@@ -61,7 +55,7 @@ returns : tie.Need-returns Inv-loop μ-loop
 unfolding badDriver
 returns c =
     let at = c .before .loop in
-    let e : at .p ≡ 31 = omega arith in
+    let e : at .p ≡ pinCount = omega arith in
     rw (at .inv .1, e)
 
 pub bad-driver-spec : {M : Type 1} → statement M
@@ -71,9 +65,7 @@ bad-driver-spec =
     Inv-loop
     μ-loop
     loop-holds
-    mul-pair-at
-    add-pair-at
-    pair-at-requires
+    pin-code-requires
     decode-driver-requires
     is-missing-requires
     add-p

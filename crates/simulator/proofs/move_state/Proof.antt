@@ -34,7 +34,7 @@ edge-of-requires c κs =
     let at = c .before .before in
     let b = at .before .before .before .before .before .before in
     let f = fine b in
-    (ap length (c .slice-body .ensures) ∙ body-length (b .args .file .now) f (at .loop .s) (search needs), f .slices-fit, omega (arith, f .inputs-fit), search needs)
+    (omega (arith, ap length (c .slice-body .ensures), body-length (b .args .file .now) f (at .loop .s) (search needs)), f .slices-fit, omega (arith, f .inputs-fit), search needs)
 
 -- the numbers that were made are those of the slice's body
 made : (c : tie.After-edge-of Inv-loop μ-loop)

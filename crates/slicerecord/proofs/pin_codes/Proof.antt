@@ -22,14 +22,8 @@ loop-holds : tie.Need-loop-holds Inv-loop μ-loop
 unfolding tabulate
 loop-holds c = (search needs, refl)
 
-mul-pair-at : tie.Need-mul-pair-at Inv-loop μ-loop
-mul-pair-at c = search needs
-
-add-pair-at : tie.Need-add-pair-at Inv-loop μ-loop
-add-pair-at c = search needs
-
-pair-at-requires : tie.Need-pair-at-requires Inv-loop μ-loop
-pair-at-requires c κs = search needs
+pin-code-requires : tie.Need-pin-code-requires Inv-loop μ-loop
+pin-code-requires c κs = search needs
 
 mul-codes : tie.Need-mul-codes Inv-loop μ-loop
 mul-codes c = search needs
@@ -53,7 +47,7 @@ tabulate-next p k f {x} h e =
 loop-again : tie.Need-loop-again Inv-loop μ-loop
 loop-again c =
     let now = c .before .before .loop in
-    (search needs, sets-step (now .codes) (now .p) _ (add-one (now .p)) (tabulate-next (now .p) pinCount _ (search needs) (c .pair-at .ensures)) ∙ now .inv .1)
+    (search needs, sets-step (now .codes) (now .p) _ (add-one (now .p)) (tabulate-next (now .p) pinCount _ (search needs) (c .pin-code .ensures)) ∙ now .inv .1)
 
 returns : tie.Need-returns Inv-loop μ-loop
 unfolding tabulate
@@ -69,9 +63,7 @@ pin-codes-spec =
     Inv-loop
     μ-loop
     loop-holds
-    mul-pair-at
-    add-pair-at
-    pair-at-requires
+    pin-code-requires
     mul-codes
     array-write-codes
     add-p

@@ -8,14 +8,8 @@ use borrow.Author.Needs.{needs}
 use Rattle.sources.proofs.pin_source.Statement.{statement}
 use Rattle.sources.proofs.pin_source.Tie as tie
 
-mul-pair-at : tie.Need-mul-pair-at
-mul-pair-at c = search needs
-
-add-pair-at : tie.Need-add-pair-at
-add-pair-at c = search needs
-
-pair-at-requires : tie.Need-pair-at-requires
-pair-at-requires c κs = search needs
+pin-code-requires : tie.Need-pin-code-requires
+pin-code-requires c κs = search needs
 
 decode-driver-requires : tie.Need-decode-driver-requires
 decode-driver-requires c κs = search needs
@@ -23,7 +17,7 @@ decode-driver-requires c κs = search needs
 decoded-source-requires : tie.Need-decoded-source-requires
 decoded-source-requires c κs =
     let a = c .before .before .before .args in
-    let k = c .before .pair-at .result in
+    let k = c .before .pin-code .result in
     subst⁻¹ (DecodedWithin columnLimit) (c .decode-driver .ensures) (within-more {n = a .n} {k = columnLimit} (search needs) (driverOf k (a .n) (a .m)) (decoded-within k (a .n) (a .m)))
 
 returns : tie.Need-returns
@@ -31,15 +25,13 @@ unfolding pinSource
 returns c =
     let a = c .before .before .before .before .args in
     c .decoded-source .ensures
-    ∙ ap decodedSource (c .before .decode-driver .ensures ∙ ap (λ (k : ℕ). driverOf k (a .n) (a .m)) (c .before .before .pair-at .ensures))
+    ∙ ap decodedSource (c .before .decode-driver .ensures ∙ ap (λ (k : ℕ). driverOf k (a .n) (a .m)) (c .before .before .pin-code .ensures))
 
 pub pin-source-spec : {M : Type 1} → statement M
 pin-source-spec =
     tie.close
     (tie.spec
-    mul-pair-at
-    add-pair-at
-    pair-at-requires
+    pin-code-requires
     decode-driver-requires
     decoded-source-requires
     returns)
