@@ -1,8 +1,8 @@
 //! Columns that are slow to judge: with as many and as deep reads as a file can hold, or with no pattern in them.
 
 use model::layout::*;
-use program::column::Column;
-use program::prng::Prng;
+use testkit::column::Column;
+use testkit::prng::Prng;
 
 /// A column of a number of slices.
 pub type Build = fn(usize) -> Column;

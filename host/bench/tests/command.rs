@@ -2,7 +2,7 @@
 
 use std::process::{Command, Output};
 
-use program::command::{assert_fails, assert_writes};
+use testkit::command::{assert_fails, assert_writes};
 
 fn bench(words: &[&str]) -> Output {
     let mut command = Command::new(env!("CARGO_BIN_EXE_bench"));

@@ -1,11 +1,11 @@
 //! The calls on one file, random but the same for a seed and a file.
 
-use library::lent::Lent;
-use library::workbench::Workbench;
 use model::design::{Design, Mode, SIGNALS};
 use model::Workings;
-use program::prng::Prng;
-use program::random;
+use quagmuffin::lent::Lent;
+use quagmuffin::workbench::Workbench;
+use testkit::prng::Prng;
+use testkit::random;
 
 use crate::calls::{Buffers, Call, Caller, Model};
 use crate::comparison::{Compared, Comparison, Sides};

@@ -2,12 +2,12 @@
 
 use std::collections::HashSet;
 
-use library::lent::Lent;
 use model::layout::*;
 use model::records::slice_record;
-use program::column::Column;
-use program::prng::Prng;
-use program::{random, traps};
+use quagmuffin::lent::Lent;
+use testkit::column::Column;
+use testkit::prng::Prng;
+use testkit::{random, traps};
 
 use crate::calls::{Buffers, Call};
 use crate::columns::{far_number, junk, other_length};

@@ -6,8 +6,8 @@ use std::collections::BTreeMap;
 use std::fmt::Write;
 use std::path::Path;
 
-use library::lent::Lent;
-use library::workbench::Workbench;
+use quagmuffin::lent::Lent;
+use quagmuffin::workbench::Workbench;
 
 use crate::calls::{Buffers, Call};
 use crate::comparison::{Case, Difference};

@@ -3,9 +3,9 @@
 use differential::calls::{by_library, Answer, Buffers, Call, Model};
 use differential::comparison::{Difference, Sides};
 use differential::{columns, records};
-use library::lent::Lent;
 use model::Workings;
-use program::random::seed;
+use quagmuffin::lent::Lent;
+use testkit::random::seed;
 
 type Broken = fn(Call, &mut Buffers) -> Answer;
 
@@ -172,7 +172,7 @@ fn every_broken_wrapper_is_caught() {
 /// A guard is named that was written, though the answer and the buffers are right.
 #[test]
 fn a_written_guard_is_named() {
-    let files = [columns::Subject::new(0, program::column::z().bytes())];
+    let files = [columns::Subject::new(0, testkit::column::z().bytes())];
     let found = found(STORES[0].1, &files, &[]);
     assert_eq!(found[0].text, "the library wrote beside the values");
 }

@@ -7,7 +7,7 @@ use differential::comparison::Sides;
 use differential::mutants::records::{others, readers, writers, Mutant};
 use differential::{mutants, records};
 use model::Workings;
-use program::random::seed;
+use testkit::random::seed;
 
 /// The same run as with the right model finds a difference for each wrong one.
 #[test]
@@ -62,7 +62,7 @@ fn every_other_mutant_of_records_is_caught() {
 /// A difference in the place alone is found.
 #[test]
 fn another_place_is_caught() {
-    let looped = |code| program::column::z().pin(0, "A1", code).bytes();
+    let looped = |code| testkit::column::z().pin(0, "A1", code).bytes();
     let subject = Subject {
         number: 0,
         file: looped(4096),

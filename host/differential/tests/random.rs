@@ -4,12 +4,12 @@ use differential::calls::{by_library, Answer, Buffers, Call, Model};
 use differential::comparison::{Compared, Sides};
 use differential::saved::save;
 use differential::{columns, records, Counts};
-use library::{read_record, write_record};
 use model::layout::*;
 use model::Workings;
-use program::random::{seed, times};
-use program::run::differences_folder;
-use program::traps;
+use quagmuffin::{read_record, write_record};
+use testkit::random::{seed, times};
+use testkit::run::differences_folder;
+use testkit::traps;
 
 /// What was compared, where nothing differs.
 fn agreed(compared: Compared<Counts>) -> Counts {

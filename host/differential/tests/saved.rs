@@ -7,12 +7,12 @@ use differential::calls::{by_library, Buffers, Call, Caller, Model};
 use differential::comparison::{replayed, Case, Difference, Sides};
 use differential::saved::{from_text, save, to_text};
 use differential::{columns, mutants, records};
-use library::lent::Lent;
-use library::workbench::Workbench;
 use model::Workings;
-use program::column::Column;
-use program::command::{assert_fails, assert_writes};
-use program::random::seed;
+use quagmuffin::lent::Lent;
+use quagmuffin::workbench::Workbench;
+use testkit::column::Column;
+use testkit::command::{assert_fails, assert_writes};
+use testkit::random::seed;
 
 /// Saves a difference with a wrong model and reads it back: the case is the same, differs in the same way with
 /// the wrong model, and not at all with the right one.

@@ -4,8 +4,8 @@ use std::os::unix::fs::PermissionsExt;
 use std::path::Path;
 use std::process::{Command, Output};
 
-use program::command::{assert_fails, assert_writes};
-use program::run::repository;
+use testkit::command::{assert_fails, assert_writes};
+use testkit::run::repository;
 
 fn soak(arguments: &[&str], judge: Option<&Path>) -> Output {
     let mut command = Command::new(env!("CARGO_BIN_EXE_soak"));

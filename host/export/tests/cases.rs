@@ -5,8 +5,8 @@ use std::path::Path;
 use export::{iverilog, verilog, Netlist, Stimulus};
 use model::layout::*;
 use model::{Simulator, Workings};
-use program::cases::worked_file;
-use program::column::{z_slicem, Column};
+use testkit::cases::worked_file;
+use testkit::column::{z_slicem, Column};
 
 /// The signals of each clock of a file in iverilog; nothing where it isn't installed.
 fn run(name: &str, file: &[u8], clocks: usize, inputs: Vec<String>) -> Option<Vec<Vec<u8>>> {

@@ -6,10 +6,10 @@ use std::process::{Command, Output, Stdio};
 
 use export::iverilog;
 use model::layout::*;
-use program::cases::worked_file;
-use program::column::Column;
-use program::command::{assert_fails, assert_writes};
-use program::run::repository;
+use testkit::cases::worked_file;
+use testkit::column::Column;
+use testkit::command::{assert_fails, assert_writes};
+use testkit::run::repository;
 
 /// Z with outside input 0 on A1, and contents A that pass it on; an outside input more drives nothing.
 fn passes_input() -> Vec<u8> {

@@ -7,7 +7,7 @@ use std::path::Path;
 
 use compared::{subjects, Subject};
 use export::{iverilog, Netlist};
-use program::random::seed;
+use testkit::random::seed;
 use wrong::{Mistake, ALL};
 
 #[test]

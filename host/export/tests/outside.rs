@@ -9,8 +9,8 @@ use compared::{subjects, Subject, CLOCKS};
 use export::{iverilog, Netlist};
 use model::design::{CarryStart, Mode, ShiftData, SIGNALS};
 use model::Design;
-use program::random::{seed, times};
-use program::run::differences_folder;
+use testkit::random::{seed, times};
+use testkit::run::differences_folder;
 
 #[test]
 fn iverilog_agrees() {

@@ -4,8 +4,8 @@ use std::fs::File;
 use std::path::Path;
 use std::process::{Command, Output, Stdio};
 
-use program::cases::worked_file;
-use program::command::{assert_fails, assert_writes};
+use testkit::cases::worked_file;
+use testkit::command::{assert_fails, assert_writes};
 
 /// The command in the tests' folder.
 fn model(words: &[&str], input: Stdio) -> Output {

@@ -13,9 +13,9 @@ use differential::calls::{by_library, Buffers, Model};
 use differential::comparison::Sides;
 use differential::saved::save;
 use differential::{columns, records, Counts};
-use program::compare::{report, Difference};
-use program::random;
-use program::run::{differences_folder, find_judge, run};
+use testkit::compare::{report, Difference};
+use testkit::random;
+use testkit::run::{differences_folder, find_judge, run};
 
 const BETWEEN_REPORTS: Duration = Duration::from_secs(10);
 

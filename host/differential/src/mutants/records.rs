@@ -5,7 +5,7 @@ use std::sync::LazyLock;
 use crate::calls::{Answer, Buffers, Call, Caller, Model};
 use model::layout::*;
 use model::records::slice_record;
-use program::mutants::{slice, WrongRules};
+use testkit::mutants::{slice, WrongRules};
 
 /// A wrong model of the record calls.
 pub struct Mutant {

@@ -3,11 +3,11 @@
 use std::path::Path;
 
 use export::{iverilog, verilog, Netlist, Stimulus};
-use library::workbench::Workbench;
 use model::design::SIGNALS;
 use model::{Design, Simulator, Workings};
-use program::prng::Prng;
-use program::random;
+use quagmuffin::workbench::Workbench;
+use testkit::prng::Prng;
+use testkit::random;
 
 /// The clocks that each design runs for.
 pub const CLOCKS: usize = 12;

@@ -2,9 +2,9 @@
 
 use std::collections::BTreeMap;
 
-use program::compare::{differences, report, Difference};
-use program::random::{files, seed, times};
-use program::run::{differences_folder, run};
+use testkit::compare::{differences, report, Difference};
+use testkit::random::{files, seed, times};
+use testkit::run::{differences_folder, run};
 
 /// The comparison ends after so many differences.
 const MOST_REPORTED: usize = 20;

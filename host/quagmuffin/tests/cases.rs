@@ -1,11 +1,11 @@
 //! The paper's worked cases through the exported library, with what they have to give, written by hand.
 
-use library::workbench::Workbench;
-use library::{judge, Accepted, Refused};
 use model::layout::*;
-use program::cases::{long_files, sizes, truncations, worked, worked_file};
-use program::column::Column;
-use program::traps;
+use quagmuffin::workbench::Workbench;
+use quagmuffin::{judge, Accepted, Refused};
+use testkit::cases::{long_files, sizes, truncations, worked, worked_file};
+use testkit::column::Column;
+use testkit::traps;
 
 /// The signals that are 1, of values that are all 0 or 1.
 fn ones(bench: &Workbench) -> Vec<usize> {

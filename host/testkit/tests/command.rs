@@ -8,10 +8,10 @@ use std::os::unix::net::UnixListener;
 use std::path::{Path, PathBuf};
 use std::process::{Command, Output, Stdio};
 
-use program::cases::worked_file;
-use program::column::Column;
-use program::command::{assert_fails, assert_writes};
-use program::run::{judge_path, repository};
+use testkit::cases::worked_file;
+use testkit::column::Column;
+use testkit::command::{assert_fails, assert_writes};
+use testkit::run::{judge_path, repository};
 
 /// `rt check judge` that counts its runs and proves two crates.
 const RT: &str = "#!/bin/sh

@@ -7,10 +7,10 @@ use std::process::{Command, Stdio};
 use std::thread::sleep;
 use std::time::Duration;
 
-use program::cases::{long_files, sizes, truncations, worked};
-use program::column::{z, Column};
-use program::compare::assert_lines;
-use program::run::{judge_path, run_command, run_writing};
+use testkit::cases::{long_files, sizes, truncations, worked};
+use testkit::column::{z, Column};
+use testkit::compare::assert_lines;
+use testkit::run::{judge_path, run_command, run_writing};
 
 #[test]
 fn worked_cases() {

@@ -1,9 +1,9 @@
 //! The record calls through the exported library, with what they have to give, written by hand.
 
-use library::lent::Lent;
-use library::{read_record, write_record, Refused};
 use model::layout::*;
-use program::column::{z, Column};
+use quagmuffin::lent::Lent;
+use quagmuffin::{read_record, write_record, Refused};
+use testkit::column::{z, Column};
 
 const HEAD: [u8; 3] = [2, 124, 0];
 

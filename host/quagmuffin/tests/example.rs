@@ -1,9 +1,9 @@
 //! The example in C, compiled with the header against the archive, and run.
 
-use program::cases::worked_file;
 use std::fs::File;
 use std::path::{Path, PathBuf};
 use std::process::{Command, Stdio};
+use testkit::cases::worked_file;
 
 /// Compiles the example with every warning an error.
 fn example() -> PathBuf {

@@ -5,11 +5,11 @@ use std::collections::HashMap;
 use std::path::Path;
 
 use model::Verdict;
-use program::cases::{sizes, truncations, worked};
-use program::compare::{differences, report, Difference};
-use program::mutants::{all, Mutant};
-use program::run::run;
-use program::{random, traps};
+use testkit::cases::{sizes, truncations, worked};
+use testkit::compare::{differences, report, Difference};
+use testkit::mutants::{all, Mutant};
+use testkit::run::run;
+use testkit::{random, traps};
 
 /// A file and the right verdict on it.
 type Judged = (Vec<u8>, Verdict);

@@ -3,7 +3,7 @@
 
 use std::fs::read_to_string;
 
-use program::run::repository;
+use testkit::run::repository;
 
 /// The names of a row of a table, and the file that declares them.
 struct Row {

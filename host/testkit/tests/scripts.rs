@@ -6,8 +6,8 @@ use std::os::unix::fs::PermissionsExt;
 use std::path::{Path, PathBuf};
 use std::process::{Command, Output};
 
-use program::command::{assert_fails, assert_writes};
-use program::run::repository;
+use testkit::command::{assert_fails, assert_writes};
+use testkit::run::repository;
 
 const COMMANDS: [&str; 5] = ["bench", "model", "replay", "soak", "verilog"];
 

@@ -32,7 +32,7 @@ pub fn differences_folder() -> PathBuf {
 /// The root of the repository.
 pub fn repository() -> &'static Path {
     let folder = Path::new(env!("CARGO_MANIFEST_DIR"));
-    folder.ancestors().nth(2).expect("host/program is in it")
+    folder.ancestors().nth(2).expect("host/testkit is in it")
 }
 
 /// The program's line for a file that is written at once.

@@ -1,10 +1,10 @@
 //! A refused call writes nothing: every buffer and the guards around it are as before.
 
-use library::lent::Lent;
-use library::workbench::Workbench;
-use library::{Answer, Refused};
 use model::layout::*;
-use program::column::{z, z_slicem, Column};
+use quagmuffin::lent::Lent;
+use quagmuffin::workbench::Workbench;
+use quagmuffin::{Answer, Refused};
+use testkit::column::{z, z_slicem, Column};
 
 type Call = fn(&mut Workbench) -> Answer;
 

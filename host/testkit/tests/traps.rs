@@ -1,8 +1,8 @@
 //! Directed files for each way to misread the paper about judging, by their
 //! exact lines.
 
-use program::compare::assert_lines;
-use program::traps;
+use testkit::compare::assert_lines;
+use testkit::traps;
 
 macro_rules! groups {
     ($($group:ident)*) => {
