@@ -1,3 +1,4 @@
+pub mod Places
 pub mod CheckLaws
 pub mod SoundLaws
 pub mod Verdicts

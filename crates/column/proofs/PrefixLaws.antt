@@ -4,12 +4,12 @@ use mathlib.Core.Path.{_≡_, _∙_, refl, sym, ap, subst}
 use mathlib.Core.Logic.{_⊎_, inl, inr, ⊎-elim}
 use mathlib.Core.Bool.{Bool, true, false}
 use mathlib.Core.List.{List, _++_}
-use Prim.Native.Nat.{ℕ, zero, suc, _+_, _*_, _<_}
+use Prim.Native.Nat.{ℕ, zero, suc, _+_, _*_, _≤_, _<_}
 use native.Mathlib.Decide.{decLt}
 use native.Mathlib.Omega.{arith}
 use borrow.Author.Tests.{lt-ltb, ltb-true}
 use lib.Dec.{ltb}
-use native.Mathlib.Nat.{zero-add, add-zero}
+use native.Mathlib.Nat.{add-zero}
 use lib.ListN.{length, take, drop, length-append, length-drop, length-take, take-append-drop, List·getD-append}
 use lib.Seq.{take-all, drop-append-le}
 use Rattle.slicefile.specs.Format.{sliceTag, endTag, recordLength}
@@ -17,12 +17,13 @@ use Rattle.rules.specs.Rules.{given}
 use Rattle.framing.specs.Framing.{headerRefusal, sliceRefusal, sizeRefusal}
 use Rattle.framing.proofs.RecordLaws.{header-whole, slice-whole, size-whole, size-tells}
 use Rattle.framing.proofs.PrefixLaws.{header-stays, header-cut, slice-stays, slice-cut, size-stays, size-cut}
-use Rattle.column.specs.File.{sliceCount, inputCount, recordStart, fileLength, fileLimit}
+use Rattle.column.specs.File.{sliceCount, inputCount, sizeLength, fileLimit}
 use Rattle.column.specs.Check.{firstBad, checkEnd, checkSlices, checkFile}
 use Rattle.column.specs.Judge.{Judged, bad, accepted, loop}
 use Rattle.column.specs.declared.Checked.{Checked}
 use Rattle.column.specs.declared.Checked.the-variants.{Bad, Sound}
 use Rattle.column.specs.declared.Verdict.{Verdict}
+use Rattle.column.proofs.Places.{size-length, start-at, length-stays, file-within}
 use Rattle.column.proofs.CheckLaws.{bad-first, good-first}
 use Rattle.column.proofs.SoundLaws.{sound-first, sound-file}
 
@@ -57,12 +58,14 @@ module _ (n m : ℕ) (x : List ℕ) where
       (λ z. over-stays (ltb (recordLength endTag) (length bytes)) (ltb (recordLength endTag) (length (bytes ++ x))) (place + recordLength endTag) n m
       (λ t. lt-ltb (recordLength endTag) (length (bytes ++ x)) (omega (arith, ltb-true (recordLength endTag) (length bytes) t, length-append bytes x))))
 
-  slices-stay : (left s : ℕ) (bytes : List ℕ) {k p : ℕ} → (k ≡ 1 → ⊥) → checkSlices n m left s bytes ≡ Bad k p → checkSlices n m left s (bytes ++ x) ≡ Bad k p
+  slices-stay : (left s place : ℕ) (bytes : List ℕ) {k p : ℕ} → (k ≡ 1 → ⊥) → checkSlices n m left s place bytes ≡ Bad k p
+      → checkSlices n m left s place (bytes ++ x) ≡ Bad k p
   unfolding checkSlices
-  slices-stay zero s bytes ne e = end-stays (recordStart s) bytes ne e
-  slices-stay (suc left) s bytes ne e =
-      first-stays (sliceRefusal n m s bytes) (sliceRefusal n m s (bytes ++ x)) (recordStart s) _ _ ne (slice-stays n m s bytes x)
-      (λ z later. rw (drop-append-le (recordLength sliceTag) bytes x (slice-whole n m s bytes z)) (slices-stay left (suc s) (drop (recordLength sliceTag) bytes) ne later))
+  slices-stay zero s place bytes ne e = end-stays place bytes ne e
+  slices-stay (suc left) s place bytes ne e =
+      first-stays (sliceRefusal n m s bytes) (sliceRefusal n m s (bytes ++ x)) place _ _ ne (slice-stays n m s bytes x)
+      (λ z later. rw (drop-append-le (recordLength sliceTag) bytes x (slice-whole n m s bytes z))
+      (slices-stay left (suc s) (place + recordLength sliceTag) (drop (recordLength sliceTag) bytes) ne later))
       e
 
   -- sound slices with bytes after them
@@ -74,30 +77,33 @@ module _ (n m : ℕ) (x : List ℕ) where
         let more : ltb (recordLength endTag) (length (bytes ++ x)) ≡ true = lt-ltb (recordLength endTag) (length (bytes ++ x)) (omega (arith, header-whole endTag bytes z, length-append bytes x)) in
         simp (header-stays endTag bytes x (λ o. omega (arith, z)), z, more)
 
-    slices-over : (left s : ℕ) (bytes : List ℕ) {i j : ℕ} → checkSlices n m left s bytes ≡ Sound i j → checkSlices n m left s (bytes ++ x) ≡ Bad 8 (fileLength (s + left))
+    slices-over : (left s place : ℕ) (bytes : List ℕ) {i j : ℕ} → checkSlices n m left s place bytes ≡ Sound i j
+        → checkSlices n m left s place (bytes ++ x) ≡ Bad 8 (place + recordLength sliceTag * left + recordLength endTag)
     unfolding checkSlices
-    slices-over zero s bytes e = rw add-zero (end-over (recordStart s) bytes e)
-    slices-over (suc left) s bytes e =
-        let r = sound-first (sliceRefusal n m s bytes) (recordStart s) _ e in
-        let f : s + suc left ≡ suc s + left = omega arith in
-        good-first (sliceRefusal n m s (bytes ++ x)) (recordStart s) _ (slice-stays n m s bytes x (λ o. omega (arith, r .0)) ∙ r .0)
-        ∙ rw (drop-append-le (recordLength sliceTag) bytes x (slice-whole n m s bytes (r .0)), f) (slices-over left (suc s) (drop (recordLength sliceTag) bytes) (r .1))
+    slices-over zero s place bytes e = rw (add-zero place) (end-over place bytes e)
+    slices-over (suc left) s place bytes e =
+        let r = sound-first (sliceRefusal n m s bytes) place _ e in
+        let next = place + recordLength sliceTag in
+        let f : place + recordLength sliceTag * suc left ≡ next + recordLength sliceTag * left = omega arith in
+        good-first (sliceRefusal n m s (bytes ++ x)) place _ (slice-stays n m s bytes x (λ o. omega (arith, r .0)) ∙ r .0)
+        ∙ rw (drop-append-le (recordLength sliceTag) bytes x (slice-whole n m s bytes (r .0)), f) (slices-over left (suc s) next (drop (recordLength sliceTag) bytes) (r .1))
 
 -- slices that are cut
-slices-cut : (n m left s : ℕ) (bytes : List ℕ) {p : ℕ} → checkSlices n m left s bytes ≡ Bad 1 p → length bytes < recordLength sliceTag * left + recordLength endTag
+slices-cut : (n m left s place : ℕ) (bytes : List ℕ) {p : ℕ} → checkSlices n m left s place bytes ≡ Bad 1 p
+    → length bytes < recordLength sliceTag * left + recordLength endTag
 unfolding checkSlices checkEnd
-slices-cut n m zero s bytes e =
+slices-cut n m zero s place bytes e =
     ⊎-elim (λ h. absurd (over-not-one (ltb (recordLength endTag) (length bytes)) (h .1))) (λ h. omega (arith, header-cut endTag bytes (h .0)))
-    (bad-cases (headerRefusal endTag bytes) (recordStart s) _ e)
+    (bad-cases (headerRefusal endTag bytes) place _ e)
   where
-    over-not-one : (t : Bool) {p : ℕ} → firstBad (given 8 t) (recordStart s + recordLength endTag) (Sound n m) ≡ Bad 1 p → ⊥
+    over-not-one : (t : Bool) {p : ℕ} → firstBad (given 8 t) (place + recordLength endTag) (Sound n m) ≡ Bad 1 p → ⊥
     over-not-one true e = let z : _≡_ {A = ℕ} 8 1 = cc in omega arith
     over-not-one false e = let z : _≡_ {A = ℕ} 0 1 = cc in omega arith
-slices-cut n m (suc left) s bytes e =
+slices-cut n m (suc left) s place bytes e =
     ⊎-elim
-    (λ h. omega (arith, slices-cut n m left (suc s) (drop (recordLength sliceTag) bytes) (h .1), length-drop (recordLength sliceTag) bytes))
+    (λ h. omega (arith, slices-cut n m left (suc s) (place + recordLength sliceTag) (drop (recordLength sliceTag) bytes) (h .1), length-drop (recordLength sliceTag) bytes))
     (λ h. omega (arith, slice-cut n m s bytes (h .0)))
-    (bad-cases (sliceRefusal n m s bytes) (recordStart s) _ e)
+    (bad-cases (sliceRefusal n m s bytes) place _ e)
 
 module _ (file x : List ℕ) where
   -- n and m stand in a whole size record
@@ -107,13 +113,16 @@ module _ (file x : List ℕ) where
   inputs-stay : sizeRefusal file ≡ 0 → inputCount (file ++ x) ≡ inputCount file
   inputs-stay z = List·getD-append file x 0 4 (omega (arith, size-whole file z))
 
+  begun : sizeRefusal file ≡ 0 → sizeLength file ≤ length file
+  begun z = rw size-length (size-whole file z)
+
   -- a refusal other than 1 is certain from the bytes seen
   pub check-stays : {k p : ℕ} → (k ≡ 1 → ⊥) → checkFile file ≡ Bad k p → checkFile (file ++ x) ≡ Bad k p
   unfolding checkFile
   check-stays ne e =
       first-stays (sizeRefusal file) (sizeRefusal (file ++ x)) 0 _ _ ne (size-stays file x)
-      (λ z later. rw (count-stays z, inputs-stay z, drop-append-le (recordStart 0) file x (size-whole file z))
-      (slices-stay (sliceCount file) (inputCount file) x (sliceCount file) 0 (drop (recordStart 0) file) ne later))
+      (λ z later. rw (count-stays z, inputs-stay z, length-stays file x, drop-append-le (sizeLength file) file x (begun z))
+      (slices-stay (sliceCount file) (inputCount file) x (sliceCount file) 0 (sizeLength file) (drop (sizeLength file) file) ne later))
       e
 
   -- bytes after a sound file are refused at the first of them
@@ -122,23 +131,23 @@ module _ (file x : List ℕ) where
   check-over {n} {m} some e =
       let f = sound-file file e in
       let r = sound-first (sizeRefusal file) 0 _ e in
-      let at : length file ≡ fileLength (sliceCount file) = omega (arith, f .size, f .count) in
+      let at : sizeLength file + recordLength sliceTag * sliceCount file + recordLength endTag ≡ length file = omega (arith, f .size, f .count, size-length file, start-at file n) in
       good-first (sizeRefusal (file ++ x)) 0 _ (size-stays file x (λ o. omega (arith, r .0)) ∙ r .0)
-      ∙ rw (count-stays (r .0), inputs-stay (r .0), drop-append-le (recordStart 0) file x (size-whole file (r .0)), at)
-      (rw zero-add at (slices-over (sliceCount file) (inputCount file) x some (sliceCount file) 0 (drop (recordStart 0) file) (r .1)))
+      ∙ rw (count-stays (r .0), inputs-stay (r .0), length-stays file x, drop-append-le (sizeLength file) file x (begun (r .0)), ← at)
+      (slices-over (sliceCount file) (inputCount file) x some (sliceCount file) 0 (sizeLength file) (drop (sizeLength file) file) (r .1))
 
 -- bytes that run out are fewer than the longest file's
 pub check-cut : (file : List ℕ) {p : ℕ} → checkFile file ≡ Bad 1 p → length file < fileLimit
 unfolding checkFile
 check-cut file e =
     ⊎-elim
-    (λ h. omega (arith, slices-cut (sliceCount file) (inputCount file) (sliceCount file) 0 (drop (recordStart 0) file) (h .1), length-drop (recordStart 0) file, size-tells file (h .0)))
+    (λ h. omega (arith, slices-cut (sliceCount file) (inputCount file) (sliceCount file) 0 (sizeLength file) (drop (sizeLength file) file) (h .1), length-drop (sizeLength file) file, size-length file, size-tells file (h .0)))
     (λ h. omega (arith, size-cut file (h .0)))
     (bad-cases (sizeRefusal file) 0 _ e)
 
 -- a sound file is no longer than the longest
 too-long : (file : List ℕ) {n m : ℕ} → fileLimit < length file → checkFile file ≡ Sound n m → ⊥
-too-long file long e = let f = sound-file file e in omega (arith, f .size, f .slices-fit)
+too-long file {n} long e = let f = sound-file file e in omega (arith, f .size, file-within file n (f .slices-fit))
 
 -- bytes enough for the longest file and one more are refused, by a number other than 1
 decided : (start rest : List ℕ) {v : Verdict} → fileLimit < length start → Judged start v → Judged (start ++ rest) v

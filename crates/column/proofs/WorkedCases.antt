@@ -18,7 +18,7 @@ use Rattle.slicefile.proofs.Tests.{and-left, and-right}
 use Rattle.sources.specs.Sources.{pinSource}
 use Rattle.series7.specs.Signals.{pinsOf, startSource, carryIn, carrySource, wideGate, familyGate, sliceGate}
 use Rattle.series7.specs.Edge.{mainSource, secondSource, nextBit, nextFlops, writeAddress, nextWord}
-use Rattle.column.specs.File.{sliceCount, sliceBody, gateAt}
+use Rattle.column.specs.File.{sliceCount, sizeLength, sliceTagOf, recordStart, sliceBody, gateAt}
 use Rattle.column.specs.Check.{checkEnd, checkSlices, checkFile}
 use Rattle.column.specs.Judge.{readsAt, Judged, bad, accepted, loop}
 use Rattle.column.specs.Clock.{State, envOf, powerUp, clocked, SettledFor, Run}
@@ -231,5 +231,5 @@ hints =
 
 -- cases 1 to 10
 pub cases-hold : Every cases
-unfolding anyBelow allBelow tabulate cases hints levels allOk rowOk givesOk runOk filled settledOk judgedOk loopOk freeOk aside isBad isSound orderOf clocked nextWord writeAddress nextFlops nextBit mainSource secondSource powerUp valueOf applyGate ruleOf signalsIn readsOf sourcesOf gateAt sliceGate familyGate wideGate pinsOf startSource carryIn carrySource pinSource sliceBody fileOf checkFile checkSlices checkEnd sizeRefusal badSize sliceRefusal bodyRefusal badDriver badCombination letterCombination badChoice letterChoice headerRefusal driverOf
+unfolding anyBelow allBelow tabulate cases hints levels allOk rowOk givesOk runOk filled settledOk judgedOk loopOk freeOk aside isBad isSound orderOf clocked nextWord writeAddress nextFlops nextBit mainSource secondSource powerUp valueOf applyGate ruleOf signalsIn readsOf sourcesOf gateAt sliceGate familyGate wideGate pinsOf startSource carryIn carrySource pinSource sliceBody recordStart sliceTagOf sizeLength fileOf checkFile checkSlices checkEnd sizeRefusal badSize sliceRefusal bodyRefusal badDriver badCombination letterCombination badChoice letterChoice headerRefusal driverOf
 cases-hold = every-by cases hints tt

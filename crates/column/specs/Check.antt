@@ -6,7 +6,7 @@ use lib.ListN.{length, drop}
 use Rattle.slicefile.specs.Format.{sliceTag, endTag, recordLength}
 use Rattle.rules.specs.Rules.{given}
 use Rattle.framing.specs.Framing.{headerRefusal, sliceRefusal, sizeRefusal}
-use Rattle.column.specs.File.{sliceCount, inputCount, recordStart}
+use Rattle.column.specs.File.{sliceCount, inputCount, sizeLength}
 use Rattle.column.specs.declared.Checked.{Checked}
 use Rattle.column.specs.declared.Checked.the-variants.{Bad, Sound}
 
@@ -21,15 +21,15 @@ checkEnd n m place s =
     firstBad (headerRefusal endTag s) place
     (firstBad (given 8 (ltb (recordLength endTag) (length s))) (place + recordLength endTag) (Sound n m))
 
--- the slice records from number s on, of which some are left, and the end record
-unfoldable pub checkSlices : ℕ → ℕ → ℕ → ℕ → List ℕ → Checked
-checkSlices n m zero s bytes = checkEnd n m (recordStart s) bytes
-checkSlices n m (suc left) s bytes =
-    let rest = checkSlices n m left (suc s) (drop (recordLength sliceTag) bytes) in
-    firstBad (sliceRefusal n m s bytes) (recordStart s) rest
+-- the slice records from number s on, of which some are left, and the end record; the first of these bytes stands at a place
+unfoldable pub checkSlices : ℕ → ℕ → ℕ → ℕ → ℕ → List ℕ → Checked
+checkSlices n m zero s place bytes = checkEnd n m place bytes
+checkSlices n m (suc left) s place bytes =
+    let rest = checkSlices n m left (suc s) (place + recordLength sliceTag) (drop (recordLength sliceTag) bytes) in
+    firstBad (sliceRefusal n m s bytes) place rest
 
 -- the whole file: the size record first, then the slices it counts
 unfoldable pub checkFile : List ℕ → Checked
 checkFile file =
-    let rest = checkSlices (sliceCount file) (inputCount file) (sliceCount file) 0 (drop (recordStart 0) file) in
+    let rest = checkSlices (sliceCount file) (inputCount file) (sliceCount file) 0 (sizeLength file) (drop (sizeLength file) file) in
     firstBad (sizeRefusal file) 0 rest

@@ -14,20 +14,29 @@ sliceCount file = byteAt file 3
 abbrev pub inputCount : List ℕ → ℕ
 inputCount file = byteAt file 4
 
+-- the length of the size record: for now the same in every file
+unfoldable pub sizeLength : List ℕ → ℕ
+sizeLength file = recordLength sizeTag
+
+-- the tag of the slice records: for now the same in every file
+unfoldable pub sliceTagOf : List ℕ → ℕ
+sliceTagOf file = sliceTag
+
 -- where the record of slice s begins, and the end record after n of them
-abbrev pub recordStart : ℕ → ℕ
-recordStart s = recordLength sizeTag + recordLength sliceTag * s
+unfoldable pub recordStart : List ℕ → ℕ → ℕ
+recordStart file s = sizeLength file + recordLength (sliceTagOf file) * s
 
--- "a file has 8 + 127n bytes", at most 8,136
-abbrev pub fileLength : ℕ → ℕ
-fileLength n = recordStart n + recordLength endTag
+-- "a file has 8 + 127n bytes"
+abbrev pub fileLength : List ℕ → ℕ → ℕ
+fileLength file n = recordStart file n + recordLength endTag
 
+-- the longest file, of 8,136 bytes: the size record, as many slice records as a file may have, and the end record
 abbrev pub fileLimit : ℕ
-fileLimit = fileLength sliceLimit
+fileLimit = recordLength sizeTag + recordLength sliceTag * sliceLimit + recordLength endTag
 
 -- the body of slice s
 unfoldable pub sliceBody : List ℕ → ℕ → List ℕ
-sliceBody file s = bodyOf sliceTag (drop (recordStart s) file)
+sliceBody file s = bodyOf (sliceTagOf file) (drop (recordStart file s) file)
 
 -- the netlist of a file: the gate of signal 32s+k
 unfoldable pub gateAt : List ℕ → ℕ → Gate

@@ -1,7 +1,6 @@
 -- `column::check_file` meets its contract. The loop's invariant: the records before slice s are good, so those from s on decide. Assumes nothing.
 use mathlib.Core.Path.{_≡_, _∙_, sym, ap}
 use Prim.Native.Nat.{ℕ, _+_, _-_, _≤_, _<_}
-use native.Mathlib.Nat.{sub-zero}
 use native.Mathlib.Omega.{arith}
 use borrow.Author.Needs.{needs}
 use lib.ListN.{length, getD, drop}
@@ -11,13 +10,14 @@ use Rattle.framing.proofs.RecordLaws.{size-whole}
 use Rattle.column.specs.File.{recordStart}
 use Rattle.column.specs.Check.{checkSlices, checkFile}
 use Rattle.column.specs.declared.Checked.the-variants.{Bad}
-use Rattle.column.proofs.CheckLaws.{bad-first, good-first, slice-bad, slice-good, slices-end, tail-whole}
+use Rattle.column.proofs.Places.{start-at, start-next}
+use Rattle.column.proofs.CheckLaws.{bad-first, tail-whole, slice-bad, slice-good, slices-end, from-slice}
 use Rattle.column.proofs.check_file.Statement.{statement}
 use Rattle.column.proofs.check_file.Tie as tie
 
 abbrev Inv-loop : tie.InvT-loop
 Inv-loop file h n m s₀ at₀ s at =
-    (n < 256) × (s ≤ n) × (at ≡ recordStart s) × (at ≤ length file) × (checkFile file ≡ checkSlices n m (n - s) s (drop at file))
+    (n < 256) × (s ≤ n) × (at ≡ recordStart file s) × (at ≤ length file) × (checkFile file ≡ checkSlices n m (n - s) s at (drop at file))
 
 abbrev μ-loop : tie.MeasureT-loop
 μ-loop file h n m s₀ at₀ s at = n - s
@@ -50,15 +50,11 @@ cast-m : tie.Need-cast-m Inv-loop μ-loop
 cast-m c = omega (arith, c .shared-slice-known3 .given 4)
 
 loop-holds : tie.Need-loop-holds Inv-loop μ-loop
-unfolding checkFile
 loop-holds c =
-    let file = c .before .before .before .before .before .args .file .now in (
-      omega (arith, c .shared-slice-known3 .given 3),
-      search needs,
-      search needs,
-      whole (c .before .before),
-      rw sub-zero (good-first (sizeRefusal file) 0 _ (good (c .before .before))),
-    )
+    let file = c .before .before .before .before .before .args .file .now in
+    let first = from-slice file (good (c .before .before)) 0 (omega arith) (λ i h. absurd (omega arith)) in
+    let here = start-at file 0 in
+    (omega (arith, c .shared-slice-known3 .given 3), search needs, sym here, rw here at (first .0), rw here at (first .1))
 
 sub-slice-refusal : tie.Need-sub-slice-refusal Inv-loop μ-loop
 sub-slice-refusal c = search needs
@@ -80,16 +76,17 @@ refusal c = rw (← tail-whole _ _) (c .slice-refusal .ensures)
 returns-2 : tie.Need-returns-2 Inv-loop μ-loop
 returns-2 c =
     let at = c .before .before .before .before .loop in
-    slice-bad _ _ _ (at .s) (at .at) (at .inv .2) (at .inv .4) (search needs) (refusal (c .before)) (c .if2 .taken)
+    slice-bad _ _ _ (at .s) (at .at) (at .inv .4) (search needs) (refusal (c .before)) (c .if2 .taken)
 
 -- what is left to decide after a good slice
 after : (c : tie.Else2 Inv-loop μ-loop)
     → let a = c .before .before .before .before .before .before .before .before .before .before .args .file .now in
     let at = c .before .before .before .before .loop in
-    (at .at + recordLength sliceTag ≤ length a) × (checkFile a ≡ checkSlices (getD a 3 0) (getD a 4 0) (getD a 3 0 - (at .s + 1)) (at .s + 1) (drop (at .at + recordLength sliceTag) a))
+    let next = at .at + recordLength sliceTag in
+    (next ≤ length a) × (checkFile a ≡ checkSlices (getD a 3 0) (getD a 4 0) (getD a 3 0 - (at .s + 1)) (at .s + 1) next (drop next a))
 after c =
     let at = c .before .before .before .before .loop in
-    slice-good _ _ _ (at .s) (at .at) (at .inv .2) (at .inv .4) (search needs) (refusal (c .before)) (c .if2 .left) (at .inv .3)
+    slice-good _ _ _ (at .s) (at .at) (at .inv .4) (search needs) (refusal (c .before)) (c .if2 .left) (at .inv .3)
 
 add-s : tie.Need-add-s Inv-loop μ-loop
 add-s c = search needs
@@ -104,7 +101,7 @@ loop-again : tie.Need-loop-again Inv-loop μ-loop
 loop-again c =
     let at = c .before .before .before .before .loop in
     let g = after c in
-    (at .inv .0, search needs, omega arith, g .0, g .1)
+    (at .inv .0, search needs, ap (λ (p : ℕ). p + recordLength sliceTag) (at .inv .2) ∙ sym (start-next _ (at .s)), g .0, g .1)
 
 sub-check-end : tie.Need-sub-check-end Inv-loop μ-loop
 sub-check-end c = search needs
@@ -116,12 +113,12 @@ part-check-end-end : tie.Need-part-check-end-end Inv-loop μ-loop
 part-check-end-end c = search needs
 
 check-end-requires : tie.Need-check-end-requires Inv-loop μ-loop
-check-end-requires c κs = search needs
+check-end-requires c κs = omega (arith, start-at (c .before .before .before .before .before .before .before .before .args .file .now) (c .before .before .loop .s))
 
 returns-3 : tie.Need-returns-3 Inv-loop μ-loop
 returns-3 c =
     let at = c .before .before .before .loop in
-    rw tail-whole at (c .check-end .ensures) ∙ sym (slices-end _ _ _ (at .s) (at .at) (at .inv .2) (at .inv .4) (search needs))
+    rw tail-whole at (c .check-end .ensures) ∙ sym (slices-end _ _ _ (at .s) (at .at) (at .inv .4) (search needs))
 
 pub check-file-spec : {M : Type 1} → statement M
 check-file-spec =

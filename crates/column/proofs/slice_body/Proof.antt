@@ -1,7 +1,8 @@
 -- `column::slice_body` meets its contract. Assumes nothing.
 use native.Mathlib.Omega.{arith}
 use borrow.Author.Needs.{needs}
-use Rattle.column.proofs.SoundLaws.{SoundFile, sound-file, body-part}
+use Rattle.column.proofs.Places.{start-at}
+use Rattle.column.proofs.SoundLaws.{SoundFile, sound-file, record-inside, body-part}
 use Rattle.column.proofs.slice_body.Statement.{statement}
 use Rattle.column.proofs.slice_body.Tie as tie
 
@@ -27,7 +28,7 @@ part-result-start : tie.Need-part-result-start
 part-result-start c = search needs
 
 part-result-end : tie.Need-part-result-end
-part-result-end c = omega (arith, fine c .size)
+part-result-end c = omega (arith, record-inside (c .args .file .now) (fine c) (c .pre .1), start-at (c .args .file .now) (c .args .s))
 
 returns : tie.Need-returns
 returns c = body-part (c .before .args .file .now) (c .before .args .s)
