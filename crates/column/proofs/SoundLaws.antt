@@ -99,8 +99,8 @@ sound-file file {n} {m} e =
     }
 
 -- the record of a slice is inside the file
-pub record-inside : (file : List ℕ) {n m s : ℕ} → SoundFile file n m → s < n → recordStart file s + recordLength sliceTag ≤ length file
-record-inside file f l = omega (arith, f .size, start-before file l)
+pub record-inside : (file : List ℕ) {n m : ℕ} → SoundFile file n m → (s : ℕ) → s < n → recordStart file s + recordLength sliceTag ≤ length file
+record-inside file f s l = omega (arith, f .size, start-before file l)
 
 -- the part of a file that is the body of slice s
 pub body-part : (file : List ℕ) (s : ℕ)
@@ -111,7 +111,7 @@ body-part file s = rw (add-sub-cancel-left, ← start-at file s, ← drop-drop)
 pub body-length : (file : List ℕ) {n m : ℕ} → SoundFile file n m → (s : ℕ) → s < n → length (sliceBody file s) ≡ bodyLength sliceTag
 unfolding sliceBody sliceTagOf
 body-length file f s l =
-    length-take-le (bodyLength sliceTag) (drop headLength (drop (recordStart file s) file)) (simp length-drop (omega (arith, record-inside file f l)))
+    length-take-le (bodyLength sliceTag) (drop headLength (drop (recordStart file s) file)) (simp length-drop (omega (arith, record-inside file f s l)))
 
 -- the body of a slice keeps the rules
 pub body-good : (file : List ℕ) {n m : ℕ} → SoundFile file n m → (s : ℕ) → s < n → bodyRefusal n m s (sliceBody file s) ≡ 0

@@ -13,14 +13,14 @@ use Rattle.slicefile.specs.Format.{sizeTag, sliceTag, endTag, recordLength, end
 use Rattle.rules.specs.Rules.{given, bodyRefusal}
 use Rattle.framing.specs.Framing.{headerRefusal, badSize, sliceRefusal, sizeRefusal}
 use Rattle.rules.proofs.Refusals.{orElse-left, orElse-right, given-none}
-use Rattle.framing.proofs.RecordLaws.{header-tells}
+use Rattle.framing.proofs.RecordLaws.{header-tells, size-whole}
 use Rattle.framing.proofs.EndLaws.{end-bytes}
 use Rattle.framing.proofs.PrefixLaws.{slice-stays, slice-cut}
 use Rattle.slicerecord.specs.Record.{Below}
 use Rattle.slicerecord.proofs.Pieces.{piece, join, piece-byte}
 use Rattle.recordcalls.specs.Calls.{recordRefusal, readRefusal}
 use Rattle.column.specs.File.{sliceCount, inputCount, recordStart}
-use Rattle.column.proofs.SoundLaws.{SoundFile}
+use Rattle.column.proofs.SoundLaws.{SoundFile, record-inside}
 
 -- a piece of the file, put behind its first bytes
 pub copied-next :
@@ -40,7 +40,7 @@ number-byte n m s body l e =
 
 module _ (file : List ℕ) {n m : ℕ} (f : SoundFile file n m) where
   whole : recordLength sizeTag ≤ length file
-  whole = omega (arith, f .size)
+  whole = size-whole file (f .begins)
 
   -- the size record is made of n and m
   pub size-bytes : Below 256 file → (1 ∷ 2 ∷ 0 ∷ n ∷ m ∷ []) ≡ take (recordLength sizeTag) (drop 0 file)
@@ -59,14 +59,14 @@ module _ (file : List ℕ) {n m : ℕ} (f : SoundFile file n m) where
 
   -- the record of slice s, whole and by itself
   abbrev pub sliceRecord : ℕ → List ℕ
-  sliceRecord s = take (recordLength sliceTag) (drop (recordStart s) file)
+  sliceRecord s = take (recordLength sliceTag) (drop (recordStart file s) file)
 
   pub record-size : (s : ℕ) → s < n → length (sliceRecord s) ≡ recordLength sliceTag
-  record-size s l = length-take-le (recordLength sliceTag) (drop (recordStart s) file) (rw length-drop (omega (arith, f .size)))
+  record-size s l = length-take-le (recordLength sliceTag) (drop (recordStart file s) file) (rw length-drop (omega (arith, record-inside file f s l)))
 
   record-good : (s : ℕ) → s < n → sliceRefusal n m s (sliceRecord s) ≡ 0
   record-good s l =
-      let stays = slice-stays n m s (sliceRecord s) (drop (recordLength sliceTag) (drop (recordStart s) file)) (λ z. omega (arith, slice-cut n m s (sliceRecord s) z, record-size s l)) in
+      let stays = slice-stays n m s (sliceRecord s) (drop (recordLength sliceTag) (drop (recordStart file s) file)) (λ z. omega (arith, slice-cut n m s (sliceRecord s) z, record-size s l)) in
       sym (rw take-append-drop at stays) ∙ f .each s l
 
   size-good : badSize n m ≡ false
@@ -86,11 +86,11 @@ module _ (file : List ℕ) {n m : ℕ} (f : SoundFile file n m) where
       simp (record-size s l, size-good, head, number, lt-ltb s n l, rest)
 
   -- a slice's record, read from its place and put there, with what stood behind it
-  pub slice-next : (out tail more : List ℕ) (s at : ℕ) → s < n → at ≡ recordStart s → length out ≡ length file → take at out ≡ take at file
+  pub slice-next : (out tail more : List ℕ) (s at : ℕ) → s < n → at ≡ recordStart file s → length out ≡ length file → take at out ≡ take at file
       → take (at + recordLength sliceTag) (take at out ++ ((take (at + recordLength sliceTag - at) (drop at file) ++ tail) ++ more)) ≡ take (at + recordLength sliceTag) file
   slice-next out tail more s at l here size same =
       rw (append-assoc, add-sub-cancel-left)
-      (copied-next file out (take (recordLength sliceTag) (drop at file)) (tail ++ more) at (recordLength sliceTag) (omega (arith, f .size)) size same refl)
+      (copied-next file out (take (recordLength sliceTag) (drop at file)) (tail ++ more) at (recordLength sliceTag) (omega (arith, record-inside file f s l)) size same refl)
 
   -- the size record, put into any buffer of the file's length
   pub size-next : Below 256 file → (out : List ℕ) → length out ≡ length file
@@ -100,9 +100,9 @@ module _ (file : List ℕ) {n m : ℕ} (f : SoundFile file n m) where
       (copied-next file out (1 ∷ 2 ∷ 0 ∷ n ∷ m ∷ []) (drop (recordLength sizeTag) out) 0 (recordLength sizeTag) whole size refl (size-bytes b))
 
   -- the end record, put last, makes it the file
-  pub end-next : (out : List ℕ) (at : ℕ) → at ≡ recordStart n → length out ≡ length file → take at out ≡ take at file → sets out at endRecord ≡ file
+  pub end-next : (out : List ℕ) (at : ℕ) → at ≡ recordStart file n → length out ≡ length file → take at out ≡ take at file → sets out at endRecord ≡ file
   end-next out at here size same =
-      let e : endRecord ≡ take (recordLength endTag) (drop at file) = rw here (sym (end-bytes (drop (recordStart n) file) (f .ends))) in
+      let e : endRecord ≡ take (recordLength endTag) (drop at file) = rw here (sym (end-bytes (drop (recordStart file n) file) (f .ends))) in
       let all = at + recordLength endTag in
       let fits : at + recordLength endTag ≡ length file = omega (arith, f .size) in
       let put : take all (sets out at endRecord) ≡ take all file = rw (sets-eq endRecord out at (omega arith), append-assoc) (copied-next file out endRecord (drop all out) at (recordLength endTag) (omega arith) size same e) in

@@ -28,7 +28,7 @@ part-result-start : tie.Need-part-result-start
 part-result-start c = search needs
 
 part-result-end : tie.Need-part-result-end
-part-result-end c = omega (arith, record-inside (c .args .file .now) (fine c) (c .pre .1), start-at (c .args .file .now) (c .args .s))
+part-result-end c = omega (arith, record-inside (c .args .file .now) (fine c) (c .args .s) (c .pre .1), start-at (c .args .file .now) (c .args .s))
 
 returns : tie.Need-returns
 returns c = body-part (c .before .args .file .now) (c .before .args .s)
