@@ -3,22 +3,23 @@
 use mathlib.Core.Path.{_≡_, refl, subst}
 use mathlib.Core.Bool.{Bool, true, false, not, _&&_, _||_}
 use mathlib.Core.List.{List}
-use Prim.Native.Nat.{ℕ, zero, suc, _+_, _%_, _≤_}
+use Prim.Native.Nat.{ℕ, zero, suc, _+_, _*_, _%_, _≤_}
 use native.Mathlib.Omega.{arith}
 use lib.Dec.{ltb, leb, eqb}
 use lib.ListN.{length, drop}
-use Rattle.slicefile.specs.Format.{sliceLimit, sizeTag, sliceTag, endTag, headLength, bodyLength, recordLength, byteAt, pairAt, bodyOf, numberByte}
+use Rattle.slicefile.specs.Format.{sizeTag, sliceTag, endTag, headLength, bodyLength, recordLength, byteAt, pairAt, bodyOf, numberByte}
 use Rattle.rules.specs.Rules.{given, _orElse_, badChoice, badCombination, badDriver, bodyRefusal}
 use Rattle.framing.specs.Framing.{headerRefusal, badSize, sliceRefusal, sizeRefusal}
 use Rattle.slicefile.specs.declared.Answer.{Answer}
 use Rattle.framing.proofs.RecordLaws.{size-tells}
-use Rattle.column.specs.File.{sliceCount, inputCount, recordStart, fileLimit}
+use Rattle.column.specs.File.{sliceCount, inputCount, sizeLength, fileLimit}
 use Rattle.column.specs.Clock.{State}
 use Rattle.column.specs.Check.{firstBad, checkEnd, checkSlices, checkFile}
 use Rattle.column.specs.Judge.{Judged, bad, accepted, loop}
 use Rattle.column.specs.declared.Checked.{Checked}
 use Rattle.column.specs.declared.Checked.the-variants.{Bad, Sound}
 use Rattle.column.specs.declared.Verdict.{Verdict}
+use Rattle.column.proofs.Places.{size-length}
 use Rattle.column.proofs.SoundLaws.{sound-file}
 use Rattle.recordcalls.specs.Calls.{recordRefusal, readRefusal, writeRefusal, answerOf}
 use Rattle.slicerecord.specs.Record.{recordBytes}
@@ -78,18 +79,20 @@ end-small n m place s l =
     first-small (headerRefusal endTag s) place _ (header-most endTag s) (omega arith)
     (λ z. first-small (given 8 (ltb (recordLength endTag) (length s))) (place + recordLength endTag) (Sound n m) (given-most 8 (ltb (recordLength endTag) (length s)) (omega arith)) l (λ y. tt))
 
-slices-small : (n m left s : ℕ) (bytes : List ℕ) → s + left ≤ sliceLimit → SmallChecked (checkSlices n m left s bytes)
+slices-small : (n m left s place : ℕ) (bytes : List ℕ) → place + recordLength sliceTag * left + recordLength endTag ≤ fileLimit
+    → SmallChecked (checkSlices n m left s place bytes)
 unfolding checkSlices
-slices-small n m zero s bytes l = end-small n m (recordStart s) bytes (omega arith)
-slices-small n m (suc left) s bytes l =
-    first-small (sliceRefusal n m s bytes) (recordStart s) _ (slice-most n m s bytes) (omega arith)
-    (λ z. slices-small n m left (suc s) (drop (recordLength sliceTag) bytes) (omega arith))
+slices-small n m zero s place bytes l = end-small n m place bytes (omega arith)
+slices-small n m (suc left) s place bytes l =
+    first-small (sliceRefusal n m s bytes) place _ (slice-most n m s bytes) (omega arith)
+    (λ z. slices-small n m left (suc s) (place + recordLength sliceTag) (drop (recordLength sliceTag) bytes) (omega arith))
 
 checked-small : (file : List ℕ) → SmallChecked (checkFile file)
 unfolding checkFile
 checked-small file =
     first-small (sizeRefusal file) 0 _ (size-most file) (omega arith)
-    (λ z. slices-small (sliceCount file) (inputCount file) (sliceCount file) 0 (drop (recordStart 0) file) (omega (arith, size-tells file z)))
+    (λ z. slices-small (sliceCount file) (inputCount file) (sliceCount file) 0 (sizeLength file) (drop (sizeLength file) file)
+    (omega (arith, size-length file, size-tells file z)))
 
 -- a judged file's verdict
 pub judged-small : (file : List ℕ) {v : Verdict} → Judged file v → SmallVerdict v
