@@ -8,12 +8,12 @@ use lib.ListN.{length, take, drop, length-drop}
 use lib.Seq.{take-all, drop-drop}
 use Rattle.slicefile.specs.Format.{sliceTag, recordLength}
 use Rattle.framing.specs.Framing.{sliceRefusal, sizeRefusal}
-use Rattle.framing.proofs.RecordLaws.{slice-whole, size-whole}
+use Rattle.framing.proofs.RecordLaws.{slice-whole}
 use Rattle.column.specs.File.{sliceCount, inputCount, recordStart}
 use Rattle.column.specs.Check.{firstBad, checkEnd, checkSlices, checkFile}
 use Rattle.column.specs.declared.Checked.{Checked}
 use Rattle.column.specs.declared.Checked.the-variants.{Bad}
-use Rattle.column.proofs.Places.{size-length, start-first, start-next}
+use Rattle.column.proofs.Places.{size-inside, start-first, start-next}
 
 pub bad-first : (k place : ℕ) (rest : Checked) → (k ≡ 0 → ⊥) → Bad k place ≡ firstBad k place rest
 bad-first zero place rest ne = absurd (ne refl)
@@ -65,7 +65,7 @@ module _ (file : List ℕ) (begins : sizeRefusal file ≡ 0) where
       → let at = recordStart file s in (at ≤ length file) × (checkFile file ≡ checkSlices (sliceCount file) (inputCount file) (sliceCount file - s) s at (drop at file))
   unfolding checkFile
   from-slice zero l good =
-      rw start-first (rw size-length (size-whole file begins), rw sub-zero (good-first (sizeRefusal file) 0 _ begins))
+      rw start-first (size-inside file begins, rw sub-zero (good-first (sizeRefusal file) 0 _ begins))
   from-slice (suc s) l good =
       let r = from-slice s (omega arith) (λ i h. good i (omega arith)) in
       let one : suc s ≡ s + 1 = omega arith in

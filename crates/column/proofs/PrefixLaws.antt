@@ -4,7 +4,7 @@ use mathlib.Core.Path.{_≡_, _∙_, refl, sym, ap, subst}
 use mathlib.Core.Logic.{_⊎_, inl, inr, ⊎-elim}
 use mathlib.Core.Bool.{Bool, true, false}
 use mathlib.Core.List.{List, _++_}
-use Prim.Native.Nat.{ℕ, zero, suc, _+_, _*_, _≤_, _<_}
+use Prim.Native.Nat.{ℕ, zero, suc, _+_, _*_, _<_}
 use native.Mathlib.Decide.{decLt}
 use native.Mathlib.Omega.{arith}
 use borrow.Author.Tests.{lt-ltb, ltb-true}
@@ -23,7 +23,7 @@ use Rattle.column.specs.Judge.{Judged, bad, accepted, loop}
 use Rattle.column.specs.declared.Checked.{Checked}
 use Rattle.column.specs.declared.Checked.the-variants.{Bad, Sound}
 use Rattle.column.specs.declared.Verdict.{Verdict}
-use Rattle.column.proofs.Places.{size-length, start-at, length-stays, file-within}
+use Rattle.column.proofs.Places.{start-from, file-within, size-inside, length-stays}
 use Rattle.column.proofs.CheckLaws.{bad-first, good-first}
 use Rattle.column.proofs.SoundLaws.{sound-first, sound-file}
 
@@ -113,15 +113,12 @@ module _ (file x : List ℕ) where
   inputs-stay : sizeRefusal file ≡ 0 → inputCount (file ++ x) ≡ inputCount file
   inputs-stay z = List·getD-append file x 0 4 (omega (arith, size-whole file z))
 
-  begun : sizeRefusal file ≡ 0 → sizeLength file ≤ length file
-  begun z = rw size-length (size-whole file z)
-
   -- a refusal other than 1 is certain from the bytes seen
   pub check-stays : {k p : ℕ} → (k ≡ 1 → ⊥) → checkFile file ≡ Bad k p → checkFile (file ++ x) ≡ Bad k p
   unfolding checkFile
   check-stays ne e =
       first-stays (sizeRefusal file) (sizeRefusal (file ++ x)) 0 _ _ ne (size-stays file x)
-      (λ z later. rw (count-stays z, inputs-stay z, length-stays file x, drop-append-le (sizeLength file) file x (begun z))
+      (λ z later. rw (count-stays z, inputs-stay z, length-stays file x, drop-append-le (sizeLength file) file x (size-inside file z))
       (slices-stay (sliceCount file) (inputCount file) x (sliceCount file) 0 (sizeLength file) (drop (sizeLength file) file) ne later))
       e
 
@@ -131,9 +128,9 @@ module _ (file x : List ℕ) where
   check-over {n} {m} some e =
       let f = sound-file file e in
       let r = sound-first (sizeRefusal file) 0 _ e in
-      let at : sizeLength file + recordLength sliceTag * sliceCount file + recordLength endTag ≡ length file = omega (arith, f .size, f .count, size-length file, start-at file n) in
+      let at : sizeLength file + recordLength sliceTag * sliceCount file + recordLength endTag ≡ length file = rw (f .count, ← start-from) (sym (f .size)) in
       good-first (sizeRefusal (file ++ x)) 0 _ (size-stays file x (λ o. omega (arith, r .0)) ∙ r .0)
-      ∙ rw (count-stays (r .0), inputs-stay (r .0), length-stays file x, drop-append-le (sizeLength file) file x (begun (r .0)), ← at)
+      ∙ rw (count-stays (r .0), inputs-stay (r .0), length-stays file x, drop-append-le (sizeLength file) file x (size-inside file (r .0)), ← at)
       (slices-over (sliceCount file) (inputCount file) x some (sliceCount file) 0 (sizeLength file) (drop (sizeLength file) file) (r .1))
 
 -- bytes that run out are fewer than the longest file's
@@ -141,7 +138,7 @@ pub check-cut : (file : List ℕ) {p : ℕ} → checkFile file ≡ Bad 1 p → l
 unfolding checkFile
 check-cut file e =
     ⊎-elim
-    (λ h. omega (arith, slices-cut (sliceCount file) (inputCount file) (sliceCount file) 0 (sizeLength file) (drop (sizeLength file) file) (h .1), length-drop (sizeLength file) file, size-length file, size-tells file (h .0)))
+    (λ h. omega (arith, slices-cut (sliceCount file) (inputCount file) (sliceCount file) 0 (sizeLength file) (drop (sizeLength file) file) (h .1), length-drop (sizeLength file) file, start-from file (sliceCount file), file-within file (sliceCount file) (size-tells file (h .0) .1)))
     (λ h. omega (arith, size-cut file (h .0)))
     (bad-cases (sizeRefusal file) 0 _ e)
 

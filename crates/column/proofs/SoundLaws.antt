@@ -12,12 +12,12 @@ use Rattle.slicefile.specs.Format.{sliceLimit, inputLimit, sizeTag, sliceTag, e
 use Rattle.rules.specs.Rules.{given, bodyRefusal}
 use Rattle.framing.specs.Framing.{headerRefusal, sliceRefusal, sizeRefusal}
 use Rattle.rules.proofs.Refusals.{given-none, orElse-right}
-use Rattle.framing.proofs.RecordLaws.{header-whole, slice-whole, size-whole, size-tells}
+use Rattle.framing.proofs.RecordLaws.{header-whole, slice-whole, size-tells}
 use Rattle.column.specs.File.{sliceCount, inputCount, sizeLength, sliceTagOf, recordStart, fileLength, sliceBody}
 use Rattle.column.specs.Check.{firstBad, checkEnd, checkSlices, checkFile}
 use Rattle.column.specs.declared.Checked.{Checked}
 use Rattle.column.specs.declared.Checked.the-variants.{Sound}
-use Rattle.column.proofs.Places.{size-length, start-at, start-before, drop-start}
+use Rattle.column.proofs.Places.{start-from, start-at, size-inside, start-before, drop-start}
 
 pub sound-first : (k place : ℕ) (rest : Checked) {n m : ℕ} → firstBad k place rest ≡ Sound n m → (k ≡ 0) × (rest ≡ Sound n m)
 sound-first zero place rest e = (refl, e)
@@ -87,7 +87,7 @@ sound-file file {n} {m} e =
     let first = drop (sizeLength file) file in
     let r : SoundSlices (sliceCount file) (inputCount file) (sliceCount file) 0 first n m = sound-slices (sliceCount file) (inputCount file) (sliceCount file) 0 (sizeLength file) first (a .1) in
     record {
-      size = omega (arith, r .size, r .count, length-drop (sizeLength file) file, size-whole file (a .0), size-length file, start-at file n);
+      size = rw (← r .count) (omega (arith, r .size, length-drop (sizeLength file) file, size-inside file (a .0), start-from file (sliceCount file)));
       count = r .count;
       inputs = r .inputs;
       some = omega (arith, r .count);

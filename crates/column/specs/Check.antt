@@ -1,5 +1,6 @@
 -- Refusals 1 to 8 of a whole file: "the first bad record decides".
 use Prim.Native.Nat.{ℕ, zero, suc, _+_}
+use mathlib.Core.Path.{_≡_}
 use mathlib.Core.List.{List}
 use lib.Dec.{ltb}
 use lib.ListN.{length, drop}
@@ -33,3 +34,7 @@ unfoldable pub checkFile : List ℕ → Checked
 checkFile file =
     let rest = checkSlices (sliceCount file) (inputCount file) (sliceCount file) 0 (sizeLength file) (drop (sizeLength file) file) in
     firstBad (sizeRefusal file) 0 rest
+
+-- a file of n slices and m outside inputs whose records are all good
+abbrev pub IsSound : List ℕ → ℕ → ℕ → Type 0
+IsSound file n m = checkFile file ≡ Sound n m

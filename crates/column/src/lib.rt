@@ -4,7 +4,7 @@ ghost use Prim.Native.Nat.{_<_, _^_};
 ghost use lib.ListN.{length};
 ghost use Rattle.lent.specs.Lent.{was, left};
 ghost use Rattle.column.specs.File.{sliceBody, gateAt};
-ghost use Rattle.column.specs.Check.{checkEnd, checkFile};
+ghost use Rattle.column.specs.Check.{checkEnd, checkFile, IsSound};
 ghost use Rattle.column.specs.Judge.{Judged};
 ghost use Rattle.netlist.specs.Table.{signalLimit, signalCount, tableLength};
 ghost use Rattle.column.specs.Compile.{tableLimit, Lowered, Compiled, Loaded};
@@ -87,7 +87,7 @@ pub fn check_file(file: &[u8]) -> Checked
 
 // The body of slice s of a sound file.
 pub fn slice_body(file: &[u8], n: usize, m: usize, s: usize) -> &[u8]
-    requires { ⌜ (checkFile (now file) ≡ Checked.Sound n m) × (s < n) ⌝ }
+    requires { ⌜ IsSound (now file) n m × (s < n) ⌝ }
     ensures { λ r. ⌜ now r ≡ sliceBody (was file) s ⌝ }
 {
     let at = SIZE_RECORD + SLICE_RECORD * s + HEAD;
@@ -96,7 +96,7 @@ pub fn slice_body(file: &[u8], n: usize, m: usize, s: usize) -> &[u8]
 
 // The gate of signal x of a sound file.
 fn signal_gate(file: &[u8], n: usize, m: usize, x: usize) -> Gate
-    requires { ⌜ (checkFile (now file) ≡ Checked.Sound n m) × (x < signalCount n) ⌝ }
+    requires { ⌜ IsSound (now file) n m × (x < signalCount n) ⌝ }
     ensures { λ r. ⌜ r ≡ gateAt (was file) x ⌝ }
 {
     let s = x / SLICE_SIGNALS;
@@ -106,7 +106,7 @@ fn signal_gate(file: &[u8], n: usize, m: usize, x: usize) -> Gate
 
 // Puts the netlist of a sound file into the gate table.
 fn lower(file: &[u8], n: usize, m: usize, table: &mut [u16])
-    requires { ⌜ (checkFile (now file) ≡ Checked.Sound n m) × (length (now table) ≡ tableLength n) ⌝ }
+    requires { ⌜ IsSound (now file) n m × (length (now table) ≡ tableLength n) ⌝ }
     ensures { λ _. ⌜ Lowered (was file) n (left table) ⌝ }
 {
     let mut x: usize = 0;
@@ -119,7 +119,7 @@ fn lower(file: &[u8], n: usize, m: usize, table: &mut [u16])
 
 // Lowers a sound file and puts its signals in order, or finds the smallest one on a loop.
 fn compile(file: &[u8], n: usize, m: usize, table: &mut [u16], order: &mut [u16]) -> Sorted
-    requires { ⌜ checkFile (now file) ≡ Checked.Sound n m ⌝ }
+    requires { ⌜ IsSound (now file) n m ⌝ }
     requires { ⌜ (length (now table) ≡ tableLength n) × (length (now order) ≡ signalCount n) ⌝ }
     ensures { λ r. ⌜ Compiled (was file) n (left table) (left order) r ⌝ }
 {
@@ -129,7 +129,7 @@ fn compile(file: &[u8], n: usize, m: usize, table: &mut [u16], order: &mut [u16]
 
 // The verdict on a file whose records are sound, its netlist at the front of the table and an order of its signals at the front of the other.
 fn load_sound(file: &[u8], n: usize, m: usize, table: &mut [u16], order: &mut [u16]) -> Verdict
-    requires { ⌜ checkFile (now file) ≡ Checked.Sound n m ⌝ }
+    requires { ⌜ IsSound (now file) n m ⌝ }
     requires { ⌜ (length (now table) ≡ tableLimit) × (length (now order) ≡ signalLimit) ⌝ }
     ensures { λ r. ⌜ Loaded (was file) (left table) (left order) r ⌝ }
 {

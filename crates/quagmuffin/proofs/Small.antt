@@ -19,7 +19,7 @@ use Rattle.column.specs.Judge.{Judged, bad, accepted, loop}
 use Rattle.column.specs.declared.Checked.{Checked}
 use Rattle.column.specs.declared.Checked.the-variants.{Bad, Sound}
 use Rattle.column.specs.declared.Verdict.{Verdict}
-use Rattle.column.proofs.Places.{size-length}
+use Rattle.column.proofs.Places.{start-from, file-within}
 use Rattle.column.proofs.SoundLaws.{sound-file}
 use Rattle.recordcalls.specs.Calls.{recordRefusal, readRefusal, writeRefusal, answerOf}
 use Rattle.slicerecord.specs.Record.{recordBytes}
@@ -92,7 +92,7 @@ unfolding checkFile
 checked-small file =
     first-small (sizeRefusal file) 0 _ (size-most file) (omega arith)
     (λ z. slices-small (sliceCount file) (inputCount file) (sliceCount file) 0 (sizeLength file) (drop (sizeLength file) file)
-    (omega (arith, size-length file, size-tells file z)))
+    (rw (← start-from) (file-within file (sliceCount file) (size-tells file z .1))))
 
 -- a judged file's verdict
 pub judged-small : (file : List ℕ) {v : Verdict} → Judged file v → SmallVerdict v

@@ -6,7 +6,7 @@ ghost use lib.ListN.{length, drop};
 ghost use Rattle.lent.specs.Lent.{was, left};
 ghost use Rattle.slicefile.specs.Format.{sliceTag, recordLength};
 ghost use Rattle.recordcalls.specs.Calls.{readRefusal};
-ghost use Rattle.column.specs.Check.{checkFile};
+ghost use Rattle.column.specs.Check.{IsSound};
 ghost use Rattle.rewrite.specs.Rewrite.{leftBy, rewritten};
 use column::Checked;
 use slicefile::Answer;
@@ -26,7 +26,7 @@ fn put_slice(bytes: &[u8], n: usize, m: usize, part: &mut [u8])
 
 // Rewrites the records of a sound file into a buffer of its length.
 fn put_records(file: &[u8], n: usize, m: usize, out: &mut [u8])
-    requires { ⌜ (checkFile (now file) ≡ Checked.Sound n m) × (length (now out) ≡ length (now file)) ⌝ }
+    requires { ⌜ IsSound (now file) n m × (length (now out) ≡ length (now file)) ⌝ }
     ensures { λ _. ⌜ left out ≡ was file ⌝ }
 {
     slicerecord::put_bytes(out, 0, &[1, 2, 0, n as u8, m as u8]);
