@@ -55,31 +55,32 @@ module _ (file : List ℕ) (n m s at : ℕ) (rest : checkFile file ≡ checkSlic
       rest ∙ ap (λ (k : ℕ). checkSlices n m k s at (drop at file)) none
 
 -- ---- "the first bad record decides", at its first byte
-module _ (file : List ℕ) (begins : sizeRefusal file ≡ 0) where
+module _ (file : List ℕ) where
   -- the records of the slices below a number are good
   abbrev pub GoodBelow : ℕ → Type 0
   GoodBelow s = (i : ℕ) → i < s → sliceRefusal (sliceCount file) (inputCount file) i (drop (recordStart file i) file) ≡ 0
 
-  -- then the records from that slice on decide
-  pub from-slice : (s : ℕ) → s ≤ sliceCount file → GoodBelow s
-      → let at = recordStart file s in (at ≤ length file) × (checkFile file ≡ checkSlices (sliceCount file) (inputCount file) (sliceCount file - s) s at (drop at file))
-  unfolding checkFile
-  from-slice zero l good =
-      rw start-first (size-inside file begins, rw sub-zero (good-first (sizeRefusal file) 0 _ begins))
-  from-slice (suc s) l good =
-      let r = from-slice s (omega arith) (λ i h. good i (omega arith)) in
-      let one : suc s ≡ s + 1 = omega arith in
-      rw (one, start-next)
-      (slice-good file (sliceCount file) (inputCount file) s (recordStart file s) (r .1) (omega arith) refl (good s (omega arith)) (r .0))
+  module _ (begins : sizeRefusal file ≡ 0) where
+    -- with a good size record, the records from that slice on decide
+    pub from-slice : (s : ℕ) → s ≤ sliceCount file → GoodBelow s
+        → let at = recordStart file s in (at ≤ length file) × (checkFile file ≡ checkSlices (sliceCount file) (inputCount file) (sliceCount file - s) s at (drop at file))
+    unfolding checkFile
+    from-slice zero l good =
+        rw start-first (size-inside file begins, rw sub-zero (good-first (sizeRefusal file) 0 _ begins))
+    from-slice (suc s) l good =
+        let r = from-slice s (omega arith) (λ i h. good i (omega arith)) in
+        let one : suc s ≡ s + 1 = omega arith in
+        rw (one, start-next)
+        (slice-good file (sliceCount file) (inputCount file) s (recordStart file s) (r .1) (omega arith) refl (good s (omega arith)) (r .0))
 
-  -- the first bad slice is refused where its record begins
-  pub slice-refused : (s : ℕ) → s < sliceCount file → GoodBelow s
-      → let at = recordStart file s in let k = sliceRefusal (sliceCount file) (inputCount file) s (drop at file) in (k ≡ 0 → ⊥) → checkFile file ≡ Bad k at
-  slice-refused s l good bad =
-      sym (slice-bad file (sliceCount file) (inputCount file) s (recordStart file s) (from-slice s (omega arith) good .1) l refl bad)
+    -- the first bad slice is refused where its record begins
+    pub slice-refused : (s : ℕ) → s < sliceCount file → GoodBelow s
+        → let at = recordStart file s in let k = sliceRefusal (sliceCount file) (inputCount file) s (drop at file) in (k ≡ 0 → ⊥) → checkFile file ≡ Bad k at
+    slice-refused s l good bad =
+        sym (slice-bad file (sliceCount file) (inputCount file) s (recordStart file s) (from-slice s (omega arith) good .1) l refl bad)
 
-  -- and after good slices the end record decides
-  pub end-decides : GoodBelow (sliceCount file)
-      → let at = recordStart file (sliceCount file) in checkFile file ≡ checkEnd (sliceCount file) (inputCount file) at (drop at file)
-  end-decides good =
-      slices-end file (sliceCount file) (inputCount file) (sliceCount file) (recordStart file (sliceCount file)) (from-slice (sliceCount file) (omega arith) good .1) (omega arith)
+    -- and after good slices the end record decides
+    pub end-decides : GoodBelow (sliceCount file)
+        → let at = recordStart file (sliceCount file) in checkFile file ≡ checkEnd (sliceCount file) (inputCount file) at (drop at file)
+    end-decides good =
+        slices-end file (sliceCount file) (inputCount file) (sliceCount file) (recordStart file (sliceCount file)) (from-slice (sliceCount file) (omega arith) good .1) (omega arith)
