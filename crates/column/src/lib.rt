@@ -14,8 +14,10 @@ use netlist::SLICE_NUMBERS;
 use netlist::SLICE_SIGNALS;
 use slicefile::END_TAG;
 use slicefile::HEAD;
+use slicefile::INPUT_COUNT;
 use slicefile::SIZE_RECORD;
 use slicefile::SLICE_BODY;
+use slicefile::SLICE_COUNT;
 use slicefile::SLICE_LIMIT;
 use slicefile::SLICE_RECORD;
 use toposort::Sorted;
@@ -67,8 +69,8 @@ pub fn check_file(file: &[u8]) -> Checked
             place: 0,
         };
     }
-    let n = file[3] as usize;
-    let m = file[4] as usize;
+    let n = file[SLICE_COUNT] as usize;
+    let m = file[INPUT_COUNT] as usize;
     let mut s: usize = 0;
     let mut at: usize = SIZE_RECORD;
     while s < n {

@@ -11,8 +11,15 @@ ghost use Rattle.rewrite.specs.Rewrite.{leftBy, rewritten};
 use column::Checked;
 use slicefile::Answer;
 use slicefile::END;
+use slicefile::SIZE_BODY;
 use slicefile::SIZE_RECORD;
+use slicefile::SIZE_TAG;
 use slicefile::SLICE_RECORD;
+
+// The header of the size record.
+const TAG: u8 = SIZE_TAG as u8;
+
+const LENGTH: u8 = SIZE_BODY as u8;
 
 // Reads a slice record and writes it at the start of a part.
 fn put_slice(bytes: &[u8], n: usize, m: usize, part: &mut [u8])
@@ -29,7 +36,7 @@ fn put_records(file: &[u8], n: usize, m: usize, out: &mut [u8])
     requires { ⌜ IsSound (now file) n m × (length (now out) ≡ length (now file)) ⌝ }
     ensures { λ _. ⌜ left out ≡ was file ⌝ }
 {
-    slicerecord::put_bytes(out, 0, &[1, 2, 0, n as u8, m as u8]);
+    slicerecord::put_bytes(out, 0, &[TAG, LENGTH, 0, n as u8, m as u8]);
     let mut s: usize = 0;
     let mut at: usize = SIZE_RECORD;
     while s < n {

@@ -3,11 +3,11 @@ use mathlib.Core.Path.{_≡_, _∙_, sym, ap}
 use Prim.Native.Nat.{ℕ, _+_, _-_, _≤_, _<_}
 use native.Mathlib.Omega.{arith}
 use borrow.Author.Needs.{needs}
-use lib.ListN.{length, getD, drop}
-use Rattle.slicefile.specs.Format.{sliceTag, recordLength}
+use lib.ListN.{length, drop}
+use Rattle.slicefile.specs.Format.{sizeTag, sliceTag, recordLength}
 use Rattle.framing.specs.Framing.{sizeRefusal, sliceRefusal}
 use Rattle.framing.proofs.RecordLaws.{size-whole}
-use Rattle.column.specs.File.{recordStart}
+use Rattle.column.specs.File.{sliceCount, inputCount, recordStart}
 use Rattle.column.specs.Check.{checkSlices, checkFile}
 use Rattle.column.specs.declared.Checked.the-variants.{Bad}
 use Rattle.column.proofs.Places.{start-at, start-next}
@@ -28,7 +28,7 @@ size-refusal-requires c κs = search needs
 good : (c : tie.Else1 Inv-loop μ-loop) → sizeRefusal (c .before .before .before .args .file .now) ≡ 0
 good c = sym (c .before .size-refusal .ensures) ∙ c .if1 .left
 
-whole : (c : tie.Else1 Inv-loop μ-loop) → 5 ≤ length (c .before .before .before .args .file .now)
+whole : (c : tie.Else1 Inv-loop μ-loop) → recordLength sizeTag ≤ length (c .before .before .before .args .file .now)
 whole c = size-whole (c .before .before .before .args .file .now) (good c)
 
 returns : tie.Need-returns Inv-loop μ-loop
@@ -70,7 +70,7 @@ slice-refusal-requires c κs = search needs
 
 refusal : (c : tie.After-slice-refusal Inv-loop μ-loop)
     → let a = c .before .before .before .before .before .before .before .before .before .args .file .now in
-    c .slice-refusal .result ≡ sliceRefusal (getD a 3 0) (getD a 4 0) (c .before .before .before .loop .s) (drop (c .before .before .before .loop .at) a)
+    c .slice-refusal .result ≡ sliceRefusal (sliceCount a) (inputCount a) (c .before .before .before .loop .s) (drop (c .before .before .before .loop .at) a)
 refusal c = rw (← tail-whole _ _) (c .slice-refusal .ensures)
 
 returns-2 : tie.Need-returns-2 Inv-loop μ-loop
@@ -83,7 +83,7 @@ after : (c : tie.Else2 Inv-loop μ-loop)
     → let a = c .before .before .before .before .before .before .before .before .before .before .args .file .now in
     let at = c .before .before .before .before .loop in
     let next = at .at + recordLength sliceTag in
-    (next ≤ length a) × (checkFile a ≡ checkSlices (getD a 3 0) (getD a 4 0) (getD a 3 0 - (at .s + 1)) (at .s + 1) next (drop next a))
+    (next ≤ length a) × (checkFile a ≡ checkSlices (sliceCount a) (inputCount a) (sliceCount a - (at .s + 1)) (at .s + 1) next (drop next a))
 after c =
     let at = c .before .before .before .before .loop in
     slice-good _ _ _ (at .s) (at .at) (at .inv .4) (search needs) (refusal (c .before)) (c .if2 .left) (at .inv .3)
