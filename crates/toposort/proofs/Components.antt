@@ -11,7 +11,9 @@ use Rattle.netlist.specs.declared.Gate.{Gate}
 use Rattle.netlist.specs.Graph.{Reads, Depends, Loop, Before}
 use Rattle.netlist.specs.Graph.Depends.{direct, through}
 use Rattle.netlist.specs.Settle.{readsIn}
-use Rattle.toposort.specs.Components.{On, Closed, Open, Within, Passed, Reaches, Listed, Components, left, TopReady, Above}
+use Rattle.toposort.specs.declared.Scan.{Scan}
+use Rattle.toposort.specs.Search.{Search, searchOf, withBest, cutTo}
+use Rattle.toposort.specs.Components.{Open, On, Closed, Within, Passed, TopReady, Reaches, Above, Listed, Components, Scanned}
 use Rattle.netlist.proofs.Order.{depends-more, depends-trans}
 use Rattle.netlist.proofs.Loops.{before-set}
 use Rattle.toposort.proofs.Reading.{place-of}
@@ -25,27 +27,35 @@ below-or-not {C} i j f g = go (decLt i j)
     go (yes l) = f l
     go (no d) = same-or-not i j (λ e. g (omega arith)) (λ e. g (omega arith))
 
--- by cases on whether x is on the stack
-pub on-or-not : {C : Type 0} (pos stack : List ℕ) (len x : ℕ) → (On pos stack len x → C) → ((On pos stack len x → ⊥) → C) → C
-on-or-not pos stack len x f g =
-    below-or-not (getD pos x 0) len
-    (λ l. same-or-not (getD stack (getD pos x 0) 0) x (λ e. f (record { below = l; holds = e })) (λ d. g (λ o. d (o .holds))))
-    (λ l. g (λ o. omega (arith, o .below)))
+-- ---- what the moves leave
 
--- two signals at one place of the stack
-pub same-place : {pos stack : List ℕ} {len x y : ℕ} → On pos stack len x → On pos stack len y → getD pos x 0 ≡ getD pos y 0 → x ≡ y
-same-place a b e = cc (a .holds, b .holds)
+-- a mark is set
+abbrev pub marked : Search → ℕ → ℕ → Search
+marked b x v = searchOf (set (b .marks) x v) (b .pos) (b .stack) (b .heads) (b .path) (b .order)
 
--- an open signal's mark rises
-pub closed-up : {marks pos stack : List ℕ} {len z : ℕ} (x v : ℕ) → x < length marks → 0 < v
-    → Closed marks pos stack len z → Closed (set marks x v) pos stack len z
-closed-up {marks} {z = z} x v h l c =
-    record { seen = stored marks x v z h (λ p q. rw q l) (λ p q. rw q (c .seen)); off = c .off }
+-- the top is done
+abbrev pub finished : Search → Scan → ℕ → Search
+finished b p top = searchOf (set (b .marks) top 8) (b .pos) (b .stack) (b .heads) (b .path) (set (b .order) (p .done) top)
 
-pub closed-down : {marks pos stack : List ℕ} {len z : ℕ} (x v : ℕ) → x < length marks → 0 < getD marks x 0
-    → Closed (set marks x v) pos stack len z → Closed marks pos stack len z
-closed-down {marks} {z = z} x v h l c =
-    record { seen = stored marks x v z h (λ p q. rw p l) (λ p q. rw q at (c .seen)); off = c .off }
+-- y is opened with mark m
+abbrev pub opened : Search → Scan → ℕ → ℕ → Search
+opened b p y m =
+    searchOf (set (b .marks) y m) (set (b .pos) y (p .len)) (set (b .stack) (p .len) y) (set (b .heads) (p .count) (p .len))
+    (set (b .path) (p .depth) y) (b .order)
+
+abbrev pub oneMore : Scan → Scan
+oneMore p =
+    record { next = p .next; depth = p .depth + 1; len = p .len + 1; count = p .count + 1; done = p .done; best = p .best }
+
+-- the last two components are one
+abbrev pub merged : Scan → Scan
+merged p = record { next = p .next; depth = p .depth; len = p .len; count = p .count - 1; done = p .done; best = p .best }
+
+-- a root is passed
+abbrev pub passed : Scan → Scan
+passed p = record { next = p .next + 1; depth = p .depth; len = p .len; count = p .count; done = p .done; best = p .best }
+
+-- ----
 
 module _ (g : ℕ → Gate) where
   pub reaches-read : {x y z : ℕ} → Reaches g x y → Reads (readsIn g) y z → Depends (readsIn g) x z
@@ -56,9 +66,13 @@ module _ (g : ℕ → Gate) where
   depends-reaches d (inl e) = rw e at d
   depends-reaches d (inr e) = depends-trans d e
 
-  pub listed-keep : (N : ℕ) (marks order : List ℕ) (done best best′ x v : ℕ) → x < length marks → (getD marks x 0 ≡ 8 → ⊥) → (v ≡ 8 → ⊥)
-      → (best′ ≡ N → best ≡ N) → Listed g N marks order done best → Listed g N (set marks x v) order done best′
-  listed-keep N marks order done best best′ x v h k w f s =
+module _ (g : ℕ → Gate) (N : ℕ) (b : Search) (p : Scan) where
+  open Search b using (marks, order)
+  open Scan p using (done, best)
+
+  pub listed-keep : (x v best′ : ℕ) → x < length marks → (getD marks x 0 ≡ 8 → ⊥) → (v ≡ 8 → ⊥) → (best′ ≡ N → best ≡ N)
+      → Listed g N b p → Listed g N (marked b x v) (withBest p best′)
+  listed-keep x v best′ h k w f s =
       record {
         counted = s .counted ∙ sym (tally-keep 8 marks x v k w);
         finished = λ i l. stored marks x v (getD order i 0) h (λ p q. absurd (k (rw p at (s .finished i l)))) (λ p q. q ∙ s .finished i l);
@@ -67,69 +81,85 @@ module _ (g : ℕ → Gate) where
         after = λ e. s .after (f e);
       }
 
-  pub listed-add : (N : ℕ) (marks order : List ℕ) (count best x : ℕ) → x < length marks → (getD marks x 0 ≡ 8 → ⊥) → count < length order
+  pub listed-add : (x : ℕ) → x < length marks → (getD marks x 0 ≡ 8 → ⊥) → done < length order
       → (best ≡ N → (y : ℕ) → Reads (readsIn g) x y → getD marks y 0 ≡ 8)
-      → Listed g N marks order count best → Listed g N (set marks x 8) (set order count x) (count + 1) best
-  listed-add N marks order count best x h k r all s =
+      → (len′ count′ : ℕ) → Listed g N b p → Listed g N (finished b p x) (cutTo p len′ count′)
+  listed-add x h k r all _ _ s =
       record {
         counted = omega (arith, s .counted, tally-add 8 marks x h k);
-        finished = λ i l. stored order count x i r
+        finished = λ i l. stored order done x i r
             (λ p q. rw q (getD-set-same marks x 8 0 h))
             (λ p q. rw q (was-done i (omega arith)));
         named = λ z e. stored marks x 8 z h
-            (λ p q. (count, omega arith, getD-set-same order count x 0 r ∙ sym p))
-            (λ p q. more z (before-set order count x count (omega arith) z (s .named z (sym q ∙ e))));
-        once = λ i j l m e. stored order count x j r
-            (λ p q. stored order count x i r (λ p′ q′. omega arith) (λ p′ q′. k (rw (sym (sym q′ ∙ e ∙ q)) (s .finished i (omega arith)))))
-            (λ p q. stored order count x i r (λ p′ q′. omega arith) (λ p′ q′. s .once i j l (omega arith) (sym q′ ∙ e ∙ q)));
-        after = λ b i y l e. stored order count x i r
-            (λ p q. rw p (before-set order count x count (omega arith) y (s .named y (all b y (reads-at i x y q e)))))
-            (λ p q. before-set order count x i (omega arith) y (s .after b i y (omega arith) (reads-at i (getD order i 0) y q e)));
+            (λ p q. (done, omega arith, getD-set-same order done x 0 r ∙ sym p))
+            (λ p q. more z (before-set order done x done (omega arith) z (s .named z (sym q ∙ e))));
+        once = λ i j l m e. stored order done x j r
+            (λ p q. stored order done x i r (λ p′ q′. omega arith) (λ p′ q′. k (rw (sym (sym q′ ∙ e ∙ q)) (s .finished i (omega arith)))))
+            (λ p q. stored order done x i r (λ p′ q′. omega arith) (λ p′ q′. s .once i j l (omega arith) (sym q′ ∙ e ∙ q)));
+        after = λ b i y l e. stored order done x i r
+            (λ p q. rw p (before-set order done x done (omega arith) y (s .named y (all b y (reads-at i x y q e)))))
+            (λ p q. before-set order done x i (omega arith) y (s .after b i y (omega arith) (reads-at i (getD order i 0) y q e)));
       }
     where
-      was-done : (i : ℕ) → i < count → getD (set marks x 8) (getD order i 0) 0 ≡ 8
+      was-done : (i : ℕ) → i < done → getD (set marks x 8) (getD order i 0) 0 ≡ 8
       was-done i l = stored marks x 8 (getD order i 0) h (λ p q. q) (λ p q. q ∙ s .finished i l)
 
-      more : (y : ℕ) → Before (set order count x) count y → Before (set order count x) (count + 1) y
+      more : (y : ℕ) → Before (set order done x) done y → Before (set order done x) (done + 1) y
       more y b = (b .0, omega (arith, b .1), b .2)
 
-      reads-at : (i z y : ℕ) → getD (set order count x) i 0 ≡ z → Reads (readsIn g) (getD (set order count x) i 0) y → Reads (readsIn g) z y
+      reads-at : (i z y : ℕ) → getD (set order done x) i 0 ≡ z → Reads (readsIn g) (getD (set order done x) i 0) y → Reads (readsIn g) z y
       reads-at i z y q e = subst (λ (w : ℕ). Reads (readsIn g) w y) q e
 
-module _ {g : ℕ → Gate} {N : ℕ} {marks pos stack heads path order : List ℕ} {next depth len count done best : ℕ}
-    (s : Components g N marks pos stack heads path order next depth len count done best) where
-  -- what a move leaves
-  abbrev pub Went : List ℕ → List ℕ → List ℕ → List ℕ → List ℕ → List ℕ → ℕ → ℕ → ℕ → ℕ → ℕ → ℕ → Type 0
-  Went marks′ pos′ stack′ heads′ path′ order′ next′ depth′ len′ count′ done′ best′ =
-      Components g N marks′ pos′ stack′ heads′ path′ order′ next′ depth′ len′ count′ done′ best′
-      × (left N marks′ next′ count′ < left N marks next count)
+module _ {g : ℕ → Gate} {N : ℕ} {b : Search} {p : Scan} (s : Components g N b p) where
+  open Search b using (marks, pos, stack, heads, path, order)
+  open Scan p using (next, depth, len, count, done, best)
+
+  -- by cases on whether x is on the stack
+  pub on-or-not : {C : Type 0} (x : ℕ) → (On b p x → C) → ((On b p x → ⊥) → C) → C
+  on-or-not x f g =
+      below-or-not (getD pos x 0) len
+      (λ l. same-or-not (getD stack (getD pos x 0) 0) x (λ e. f (record { below = l; holds = e })) (λ d. g (λ o. d (o .holds))))
+      (λ l. g (λ o. omega (arith, o .below)))
+
+  -- two signals at one place of the stack
+  pub same-place : {x y : ℕ} → On b p x → On b p y → getD pos x 0 ≡ getD pos y 0 → x ≡ y
+  same-place a b e = cc (a .holds, b .holds)
+
+  -- an open signal's mark rises
+  pub closed-up : {z : ℕ} (x v : ℕ) → x < length marks → 0 < v → Closed b p z → Closed (marked b x v) p z
+  closed-up {z} x v h l c =
+      record { seen = stored marks x v z h (λ p q. rw q l) (λ p q. rw q (c .seen)); off = c .off }
+
+  pub closed-down : {z : ℕ} (x v : ℕ) → x < length marks → 0 < getD marks x 0 → Closed (marked b x v) p z → Closed b p z
+  closed-down {z} x v h l c =
+      record { seen = stored marks x v z h (λ p q. rw p l) (λ p q. rw q at (c .seen)); off = c .off }
 
   pub inside : (x : ℕ) → x < N → x < length marks
-  inside x h = omega (arith, s .sized)
+  inside x h = omega (arith, s .sized .marks)
 
-  pub stack-on : (i : ℕ) → i < len → On pos stack len (getD stack i 0)
+  pub stack-on : (i : ℕ) → i < len → On b p (getD stack i 0)
   stack-on i l = let e = s .placed .at i l in record { below = rw e l; holds = rw e refl }
 
-  pub on-seen : {x : ℕ} → On pos stack len x → 0 < getD marks x 0
+  pub on-seen : {x : ℕ} → On b p x → 0 < getD marks x 0
   on-seen o = rw (o .holds) at (s .placed .seen _ (o .below))
 
   seen-below : (x : ℕ) → 0 < getD marks x 0 → x < N
-  seen-below x l = omega (arith, s .sized, in-list marks x l)
+  seen-below x l = omega (arith, s .sized .marks, in-list marks x l)
 
-  pub reach-on : {x y : ℕ} → On pos stack len x → On pos stack len y → Within heads count (getD pos x 0) (getD pos y 0) → Reaches g x y
+  pub reach-on : {x y : ℕ} → On b p x → On b p y → Within b p (getD pos x 0) (getD pos y 0) → Reaches g x y
   reach-on a b w = rw (a .holds, b .holds) at (s .reach _ _ (a .below) (b .below) w)
 
   -- what a signal depends on is closed where all it reads is
-  closed-from : (x y : ℕ) → ((z : ℕ) → Reads (readsIn g) x z → Closed marks pos stack len z) → Depends (readsIn g) x y → Closed marks pos stack len y
+  closed-from : (x y : ℕ) → ((z : ℕ) → Reads (readsIn g) x z → Closed b p z) → Depends (readsIn g) x y → Closed b p y
   closed-from x y f (direct r) = f y r
   closed-from x y f (through {y = z} r d) = closed-from z y (λ w q. s .closed z w (f z r) q) d
 
   -- the order has room for one more signal
   pub order-room : (x : ℕ) → x < N → (getD marks x 0 ≡ 8 → ⊥) → done < length order
-  order-room x h k = omega (arith, s .listed .counted, s .order-sized, s .sized, tally-lt 8 marks x (inside x h) k)
+  order-room x h k = omega (arith, s .listed .counted, s .sized .order, s .sized .marks, tally-lt 8 marks x (inside x h) k)
 
   -- a seen signal that is off the stack is done
-  pub closed-done : (x : ℕ) → Closed marks pos stack len x → getD marks x 0 ≡ 8
+  pub closed-done : (x : ℕ) → Closed b p x → getD marks x 0 ≡ 8
   closed-done x c =
       same-or-not (getD marks x 0) 8 (λ e. e)
       (λ d.
@@ -137,11 +167,11 @@ module _ {g : ℕ → Gate} {N : ℕ} {marks pos stack heads path order : List �
       absurd (c .off (rw (b .2) at (s .pathed .on (b .0) (b .1)))))
 
   -- each read of a signal on the stack whose reads are all done has been looked at
-  pub passed-read : (x y : ℕ) → On pos stack len x → 6 < getD marks x 0 → Reads (readsIn g) x y → Passed marks pos stack heads len count best x y
+  pub passed-read : (x y : ℕ) → On b p x → 6 < getD marks x 0 → Reads (readsIn g) x y → Passed b p x y
   passed-read x y o l r = let p = place-of g x y r in s .looked x (p .0) y o (omega (arith, p .1)) (p .1) (p .2)
 
   -- such a signal is judged
-  pub judged-on : (x : ℕ) → On pos stack len x → 6 < getD marks x 0 → Loop (readsIn g) x → best ≤ x
+  pub judged-on : (x : ℕ) → On b p x → 6 < getD marks x 0 → Loop (readsIn g) x → best ≤ x
   judged-on x o l d =
       below-or-not x best
       (λ k. absurd (closed-from x x (λ z r. ⊎-elim (λ c. c) (λ m. absurd (omega (arith, m .least))) (passed-read x z o l r)) d .off o))
@@ -167,7 +197,7 @@ module _ {g : ℕ → Gate} {N : ℕ} {marks pos stack heads path order : List �
       (λ l. omega arith)
 
   module _ {top : ℕ} (some : 0 < depth) (last : getD path (depth - 1) 0 ≡ top) where
-    pub top-on : On pos stack len top
+    pub top-on : On b p top
     top-on = rw last at (s .pathed .on (depth - 1) (omega arith))
 
     pub top-open : Open marks top
@@ -192,21 +222,21 @@ module _ {g : ℕ → Gate} {N : ℕ} {marks pos stack heads path order : List �
     count-some = s .headed .some (omega (arith, top-on .below))
 
     -- every signal on the stack reaches the top
-    pub reach-top : {x : ℕ} → On pos stack len x → Reaches g x top
+    pub reach-top : {x : ℕ} → On b p x → Reaches g x top
     reach-top o = reach-on o top-on (λ k l _. heads-le k l)
 
     -- the top reads a signal on the stack
-    pub top-loop : (y : ℕ) → Reads (readsIn g) top y → On pos stack len y → Loop (readsIn g) top
+    pub top-loop : (y : ℕ) → Reads (readsIn g) top y → On b p y → Loop (readsIn g) top
     top-loop y r o = depends-reaches g (direct r) (reach-top o)
 
-    pub ready : TopReady N marks pos stack heads len count top
+    pub ready : TopReady N b p top
     ready =
         record {
           small = s .small;
-          sized = s .sized;
-          pos-sized = s .pos-sized;
-          stack-sized = s .stack-sized;
-          heads-sized = s .heads-sized;
+          marks-sized = s .sized .marks;
+          pos-sized = s .sized .pos;
+          stack-sized = s .sized .stack;
+          heads-sized = s .sized .heads;
           len-le = omega (arith, s .placed .fits);
           count-le = omega (arith, s .placed .fits, count-le);
           some = count-some;
@@ -215,5 +245,5 @@ module _ {g : ℕ → Gate} {N : ℕ} {marks pos stack heads path order : List �
         }
 
     -- every signal on the stack depends on what the top reads
-    pub above-read : {y : ℕ} → Reads (readsIn g) top y → Above g stack len y
+    pub above-read : {y : ℕ} → Reads (readsIn g) top y → Above g b p y
     above-read r i l = reaches-read g (reach-top (stack-on i l)) r

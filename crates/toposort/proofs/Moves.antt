@@ -2,7 +2,6 @@
 use Prim.Native.Nat.{ℕ, suc, _+_, _-_, _≤_, _<_}
 use mathlib.Core.Path.{_≡_, sym, ap, _∙_}
 use mathlib.Core.Logic.{_⊎_, inl, inr, ⊎-elim}
-use mathlib.Core.List.{List}
 use native.Mathlib.Omega.{arith}
 use lib.ListN.{length, getD, set, length-set}
 use Rattle.netlist.specs.declared.Gate.{Gate}
@@ -10,27 +9,36 @@ use Rattle.toposort.specs.declared.Read.the-variants.{Signal}
 use Rattle.netlist.specs.Graph.{Reads, Loop, Before}
 use Rattle.netlist.specs.Settle.{readsIn}
 use Rattle.toposort.specs.Reading.{readAt}
-use Rattle.toposort.specs.Components.{On, Closed, Open, Within, Passed, Reaches, Components, left}
+use Rattle.toposort.specs.declared.Scan.{Scan}
+use Rattle.toposort.specs.Search.{Search, withBest, cutTo}
+use Rattle.toposort.specs.Components.{Open, On, Closed, Within, Passed, Reaches, Components, Scanned}
 use Rattle.toposort.proofs.Tally.{same-or-not, stored, tally-keep, room-less}
-use Rattle.toposort.proofs.Components.{below-or-not, on-or-not, same-place, closed-up, closed-down, listed-keep, listed-add, reaches-read, depends-reaches, Went, inside, stack-on, on-seen, reach-on, passed-read, closed-done, judged-on, order-room, top-on, top-open, top-below, path-le, heads-le, count-some, reach-top, top-loop}
+use Rattle.toposort.proofs.Components.{below-or-not, marked, finished, merged, reaches-read, depends-reaches, listed-keep, listed-add}
+use Rattle.toposort.proofs.Components.{on-or-not, same-place, closed-up, closed-down, inside, stack-on, on-seen, reach-on}
+use Rattle.toposort.proofs.Components.{order-room, closed-done, passed-read, judged-on, top-on, top-open, top-below, path-le}
+use Rattle.toposort.proofs.Components.{heads-le, count-some, reach-top, top-loop}
 
-module _ {g : ℕ → Gate} {N : ℕ} {marks pos stack heads path order : List ℕ} {next depth len count done best : ℕ}
-    (s : Components g N marks pos stack heads path order next depth len count done best) where
+module _ {g : ℕ → Gate} {N : ℕ} {b : Search} {p : Scan} (s : Components g N b p) where
+  open Search b using (marks, pos, stack, heads, path, order)
+  open Scan p using (next, depth, len, count, done, best)
+
   module _ {top : ℕ} (some : 0 < depth) (last : getD path (depth - 1) 0 ≡ top) where
     -- the top's read at place m - 1 is done
     pub raise : (m best′ : ℕ) → next < N → getD marks top 0 ≡ m → (m ≡ 7 → ⊥) → best′ ≤ best → (best′ < N → Loop (readsIn g) best′)
-        → ((i y : ℕ) → suc i ≡ m → readAt g top i ≡ Signal y → Passed marks pos stack heads len count best′ top y)
-        → Went s (set marks top (m + 1)) pos stack heads path order next depth len count done best′
-    raise m best′ l e d b bl new = (
+        → ((i y : ℕ) → suc i ≡ m → readAt g top i ≡ Signal y → Passed b (withBest p best′) top y)
+        → Scanned g N marks p (marked b top (m + 1)) (withBest p best′)
+    raise m best′ l e d less-or-same bl new = (
       record {
         bounded = s .bounded;
         small = s .small;
-        sized = length-set marks top (m + 1) ∙ s .sized;
-        pos-sized = s .pos-sized;
-        stack-sized = s .stack-sized;
-        heads-sized = s .heads-sized;
-        path-sized = s .path-sized;
-        order-sized = s .order-sized;
+        sized = record {
+          marks = length-set marks top (m + 1) ∙ s .sized .marks;
+          pos = s .sized .pos;
+          stack = s .sized .stack;
+          heads = s .sized .heads;
+          path = s .sized .path;
+          order = s .sized .order;
+        };
         next-le = s .next-le;
         ended = λ w. absurd (omega arith);
         low = λ z. stored marks top (m + 1) z h (λ _ q. omega (arith, o .left)) (λ _ q. rw q (s .low z));
@@ -58,11 +66,11 @@ module _ {g : ℕ → Gate} {N : ℕ} {marks pos stack heads path order : List �
             (λ g. up (rw (sym p) at (new i y g (rw p at r))))
             (λ g. up (less (s .looked x i y w (rw p (omega arith)) b′ r))))
             (λ p q. up (less (s .looked x i y w (rw q at k) b′ r)));
-        closed = λ x y c r. closed-up top (m + 1) h (omega arith) (s .closed x y (down c) r);
+        closed = λ x y c r. closed-up s top (m + 1) h (omega arith) (s .closed x y (down c) r);
         judged = λ x c p. omega (arith, s .judged x (down c) p);
         best-le = omega (arith, s .best-le);
         best-loop = bl;
-        listed = listed-keep g N marks order done best best′ top (m + 1) h (λ w. omega (arith, o .left)) (λ w. omega (arith, o .left)) (λ w. omega (arith, s .best-le)) (s .listed);
+        listed = listed-keep g N b p top (m + 1) best′ h (λ w. omega (arith, o .left)) (λ w. omega (arith, o .left)) (λ w. omega (arith, s .best-le)) (s .listed);
       },
       omega (arith, room-less marks top (m + 1) h (omega arith) (omega (arith, o .left))),
     )
@@ -73,26 +81,26 @@ module _ {g : ℕ → Gate} {N : ℕ} {marks pos stack heads path order : List �
         o : Open marks top
         o = top-open s some last
 
-        down : {z : ℕ} → Closed (set marks top (m + 1)) pos stack len z → Closed marks pos stack len z
-        down c = closed-down top (m + 1) h (o .seen) c
+        down : {z : ℕ} → Closed (marked b top (m + 1)) p z → Closed b p z
+        down c = closed-down s top (m + 1) h (o .seen) c
 
-        up : {x y : ℕ} → Passed marks pos stack heads len count best′ x y → Passed (set marks top (m + 1)) pos stack heads len count best′ x y
-        up (inl c) = inl (closed-up top (m + 1) h (omega arith) c)
+        up : {x y : ℕ} → Passed b (withBest p best′) x y → Passed (marked b top (m + 1)) (withBest p best′) x y
+        up (inl c) = inl (closed-up s top (m + 1) h (omega arith) c)
         up (inr w) = inr w
 
-        less : {x y : ℕ} → Passed marks pos stack heads len count best x y → Passed marks pos stack heads len count best′ x y
+        less : {x y : ℕ} → Passed b p x y → Passed b (withBest p best′) x y
         less (inl c) = inl c
         less (inr w) = inr (record { on = w .on; least = omega (arith, w .least); within = w .within })
 
     -- the top reads a signal of its component
     pub meet : (m y best′ : ℕ) → next < N → getD marks top 0 ≡ m → (m ≡ 7 → ⊥) → best′ ≤ best → best′ ≤ top → (best′ ≡ best) ⊎ (best′ ≡ top)
         → Reads (readsIn g) top y → ((i z : ℕ) → suc i ≡ m → readAt g top i ≡ Signal z → z ≡ y)
-        → On pos stack len y → getD heads (count - 1) 0 ≤ getD pos y 0
-        → Went s (set marks top (m + 1)) pos stack heads path order next depth len count done best′
-    meet m y best′ l e d b b′ which r only o w =
-        raise m best′ l e d b
+        → On b p y → getD heads (count - 1) 0 ≤ getD pos y 0
+        → Scanned g N marks p (marked b top (m + 1)) (withBest p best′)
+    meet m y best′ l e d low low′ which r only o w =
+        raise m best′ l e d low
         (λ k. ⊎-elim (λ p. rw p (s .best-loop (omega arith))) (λ p. rw p (top-loop s some last y r o)) which)
-        (λ i z g q. let p = only i z g q in rw p (inr (record { on = o; least = b′; within = λ k h _. in-last k h })))
+        (λ i z g q. let p = only i z g q in rw p (inr (record { on = o; least = low′; within = λ k h _. in-last k h })))
       where
         in-last : (k : ℕ) → k < count → getD heads k 0 ≤ getD pos y 0
         in-last k h =
@@ -101,18 +109,13 @@ module _ {g : ℕ → Gate} {N : ℕ} {marks pos stack heads path order : List �
             (λ p. omega (arith, s .headed .sorted k (count - 1) (omega arith) (omega arith)))
 
     -- the top reads a signal of an earlier component: the last two components are one
-    pub merge : (y : ℕ) → Reads (readsIn g) top y → On pos stack len y → getD pos y 0 < getD heads (count - 1) 0
-        → Went s marks pos stack heads path order next depth len (count - 1) done best
+    pub merge : (y : ℕ) → Reads (readsIn g) top y → On b p y → getD pos y 0 < getD heads (count - 1) 0
+        → Scanned g N marks p b (merged p)
     merge y r o below = (
       record {
         bounded = s .bounded;
         small = s .small;
         sized = s .sized;
-        pos-sized = s .pos-sized;
-        stack-sized = s .stack-sized;
-        heads-sized = s .heads-sized;
-        path-sized = s .path-sized;
-        order-sized = s .order-sized;
         next-le = s .next-le;
         ended = s .ended;
         low = s .low;
@@ -145,11 +148,11 @@ module _ {g : ℕ → Gate} {N : ℕ} {marks pos stack heads path order : List �
             (λ p. let z : getD heads (count - 1) 0 ≡ 0 = rw p (s .headed .bottom (count-some s some last)) in absurd (omega arith))
             (λ p. omega (arith, count-some s some last))
 
-        fewer : {x z : ℕ} → Passed marks pos stack heads len count best x z → Passed marks pos stack heads len (count - 1) best x z
+        fewer : {x z : ℕ} → Passed b p x z → Passed b (merged p) x z
         fewer (inl c) = inl c
         fewer (inr w) = inr (record { on = w .on; least = w .least; within = λ k l. w .within k (omega arith) })
 
-        back : (i j : ℕ) → j < len → getD heads (count - 1) 0 ≤ i → Within heads (count - 1) i j → Reaches g y (getD stack j 0)
+        back : (i j : ℕ) → j < len → getD heads (count - 1) 0 ≤ i → Within b (merged p) i j → Reaches g y (getD stack j 0)
         back i j m k w =
             reach-on s o (stack-on s j m) (λ a b c. rw (s .placed .at j m)
             (same-or-not a (count - 1) (λ p. absurd (omega (arith, rw p at c))) (λ p. w a (omega arith) (omega arith))))
@@ -160,18 +163,20 @@ module _ {g : ℕ → Gate} {N : ℕ} {marks pos stack heads path order : List �
         → ((k : ℕ) → k < count′ → (getD heads k 0 < len′) × (getD heads k 0 ≡ getD pos top 0 → ⊥))
         → (0 < len′ → 0 < count′)
         → ((i k : ℕ) → i < len′ → k < count → getD heads k 0 ≤ i → k < count′)
-        → ((i j : ℕ) → i < len → len′ ≤ i → Within heads count i j → len′ ≤ j)
-        → Went s (set marks top 8) pos stack heads path (set order done top) next (depth - 1) len′ count′ (done + 1) best
+        → ((i j : ℕ) → i < len → len′ ≤ i → Within b p i j → len′ ≤ j)
+        → Scanned g N marks p (finished b p top) (cutTo p len′ count′)
     retire len′ count′ l e len-le top-le fewer keeps some′ only cut = (
       record {
         bounded = s .bounded;
         small = s .small;
-        sized = length-set marks top 8 ∙ s .sized;
-        pos-sized = s .pos-sized;
-        stack-sized = s .stack-sized;
-        heads-sized = s .heads-sized;
-        path-sized = s .path-sized;
-        order-sized = length-set order done top ∙ s .order-sized;
+        sized = record {
+          marks = length-set marks top 8 ∙ s .sized .marks;
+          pos = s .sized .pos;
+          stack = s .sized .stack;
+          heads = s .sized .heads;
+          path = s .sized .path;
+          order = length-set order done top ∙ s .sized .order;
+        };
         next-le = s .next-le;
         ended = λ w. absurd (omega arith);
         low = λ z. stored marks top 8 z h (λ _ q. omega arith) (λ _ q. rw q (s .low z));
@@ -212,7 +217,7 @@ module _ {g : ℕ → Gate} {N : ℕ} {marks pos stack heads path order : List �
         judged = λ x c d. was c (λ c′. s .judged x c′ d) (λ o k. judged-on s x o (past o k) d);
         best-le = s .best-le;
         best-loop = s .best-loop;
-        listed = listed-add g N marks order done best top h (λ w. omega arith) (order-room s top (top-below s some last) (λ w. omega arith)) top-after (s .listed);
+        listed = listed-add g N b p top h (λ w. omega arith) (order-room s top (top-below s some last) (λ w. omega arith)) top-after len′ count′ (s .listed);
       },
       omega (arith, room-less marks top 8 h (omega arith) (omega arith)),
     )
@@ -237,38 +242,38 @@ module _ {g : ℕ → Gate} {N : ℕ} {marks pos stack heads path order : List �
         under : (i : ℕ) → i < depth - 1 → getD pos (getD path i 0) 0 < getD pos top 0
         under i k = rw last at (s .pathed .sorted i (depth - 1) k (omega arith))
 
-        more : {x : ℕ} → On pos stack len′ x → On pos stack len x
+        more : {x : ℕ} → On b (cutTo p len′ count′) x → On b p x
         more o = record { below = omega (arith, o .below); holds = o .holds }
 
         -- what is closed stays so, and what the cut takes off is closed
-        still : {x : ℕ} → Closed marks pos stack len x → Closed (set marks top 8) pos stack len′ x
-        still c = record { seen = closed-up top 8 h (omega arith) c .seen; off = λ o. c .off (more o) }
+        still : {x : ℕ} → Closed b p x → Closed (finished b p top) (cutTo p len′ count′) x
+        still c = record { seen = closed-up s top 8 h (omega arith) c .seen; off = λ o. c .off (more o) }
 
-        gone : {x : ℕ} → On pos stack len x → len′ ≤ getD pos x 0 → Closed (set marks top 8) pos stack len′ x
+        gone : {x : ℕ} → On b p x → len′ ≤ getD pos x 0 → Closed (finished b p top) (cutTo p len′ count′) x
         gone {x} o k =
             record {
               seen = stored marks top 8 x h (λ _ q. omega arith) (λ _ q. rw q (on-seen s o));
               off = λ o′. omega (arith, o′ .below);
             }
 
-        was : {C : Type 0} {x : ℕ} → Closed (set marks top 8) pos stack len′ x
-            → (Closed marks pos stack len x → C) → (On pos stack len x → len′ ≤ getD pos x 0 → C) → C
+        was : {C : Type 0} {x : ℕ} → Closed (finished b p top) (cutTo p len′ count′) x
+            → (Closed b p x → C) → (On b p x → len′ ≤ getD pos x 0 → C) → C
         was {x = x} c f g =
-            on-or-not pos stack len x
+            on-or-not s x
             (λ o. below-or-not (getD pos x 0) len′ (λ k. absurd (c .off (record { below = k; holds = o .holds }))) (λ k. g o k))
             (λ d. f (record { seen = stored marks top 8 x h (λ p q. rw p (omega arith)) (λ p q. rw q at (c .seen)); off = d }))
 
         -- the reads of what the cut takes off are all done
-        past : {x : ℕ} → On pos stack len x → len′ ≤ getD pos x 0 → 6 < getD marks x 0
+        past : {x : ℕ} → On b p x → len′ ≤ getD pos x 0 → 6 < getD marks x 0
         past {x} o k =
             below-or-not 6 (getD marks x 0) (λ m. m)
             (λ m.
             let b = path-le s some last x (s .pathed .named x (record { seen = on-seen s o; left = omega arith })) in
-            let p : x ≡ top = same-place o (top-on s some last) (omega arith) in
+            let p : x ≡ top = same-place s o (top-on s some last) (omega arith) in
             rw p (omega arith))
 
-        kept : {x y : ℕ} → On pos stack len′ x → Passed marks pos stack heads len count best x y
-            → Passed (set marks top 8) pos stack heads len′ count′ best x y
+        kept : {x y : ℕ} → On b (cutTo p len′ count′) x → Passed b p x y
+            → Passed (finished b p top) (cutTo p len′ count′) x y
         kept o (inl c) = inl (still c)
         kept {y = y} o (inr w) =
             below-or-not (getD pos y 0) len′
@@ -277,7 +282,7 @@ module _ {g : ℕ → Gate} {N : ℕ} {marks pos stack heads path order : List �
 
     -- the top is done, and its component goes on
     pub leave : next < N → getD marks top 0 ≡ 7 → (getD pos top 0 ≡ getD heads (count - 1) 0 → ⊥)
-        → Went s (set marks top 8) pos stack heads path (set order done top) next (depth - 1) len count (done + 1) best
+        → Scanned g N marks p (finished b p top) (cutTo p len count)
     leave l e d =
         retire len count l e (omega arith) (omega (arith, top-on s some last .below)) (omega arith)
         (λ k m. (
@@ -292,7 +297,7 @@ module _ {g : ℕ → Gate} {N : ℕ} {marks pos stack heads path order : List �
 
     -- the top is done, and so is its component, which begins at the top
     pub close : (at : ℕ) → next < N → getD marks top 0 ≡ 7 → at ≡ getD pos top 0 → getD pos top 0 ≡ getD heads (count - 1) 0
-        → Went s (set marks top 8) pos stack heads path (set order done top) next (depth - 1) at (count - 1) (done + 1) best
+        → Scanned g N marks p (finished b p top) (cutTo p at (count - 1))
     close at l e a d =
         retire at (count - 1) l e (omega (arith, top-on s some last .below)) (omega arith) (omega arith)
         (λ k m. let q = s .headed .sorted k (count - 1) m (omega arith) in (omega arith, λ p. omega arith))

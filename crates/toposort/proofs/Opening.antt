@@ -2,7 +2,6 @@
 use Prim.Native.Nat.{ℕ, suc, _+_, _≤_, _<_, zero-le}
 use mathlib.Core.Path.{_≡_, refl, sym, _∙_}
 use mathlib.Core.Logic.{inl, inr}
-use mathlib.Core.List.{List}
 use native.Mathlib.Omega.{arith}
 use lib.ListN.{length, getD, set, length-set}
 use lib.Seq.{getD-set-same, getD-set-other}
@@ -12,28 +11,35 @@ use Rattle.netlist.specs.Settle.{readsIn}
 use Rattle.netlist.specs.Table.{signalLimit}
 use Rattle.toposort.specs.declared.Read.the-variants.{Signal}
 use Rattle.toposort.specs.Reading.{readAt}
-use Rattle.toposort.specs.Components.{On, Closed, Open, Passed, Components, left, Above, Least}
+use Rattle.toposort.specs.declared.Scan.{Scan}
+use Rattle.toposort.specs.Search.{Search, scanFrom}
+use Rattle.toposort.specs.Components.{Open, Sized, On, Closed, Passed, Above, Components, Scanned, Least}
 use Rattle.toposort.proofs.Tally.{same-or-not, stored, in-list, tally-less, tally-le, tally-all, tally-none, room-less}
-use Rattle.toposort.proofs.Components.{below-or-not, listed-keep, Went, inside, stack-on, on-seen, closed-done, empty, depth-le, count-le}
+use Rattle.toposort.proofs.Components.{below-or-not, opened, oneMore, passed, listed-keep, inside, stack-on, on-seen}
+use Rattle.toposort.proofs.Components.{closed-done, empty, depth-le, count-le}
 
-module _ {g : ℕ → Gate} {N : ℕ} {marks pos stack heads path order : List ℕ} {next depth len count done best : ℕ}
-    (s : Components g N marks pos stack heads path order next depth len count done best) where
+module _ {g : ℕ → Gate} {N : ℕ} {b : Search} {p : Scan} (s : Components g N b p) where
+  open Search b using (marks, pos, stack, heads, path, order)
+  open Scan p using (next, depth, len, count, done, best)
+
   module _ (y : ℕ) (h : y < N) (new : getD marks y 0 ≡ 0) where
     pub len-lt : len < N
     len-lt = omega (arith, s .placed .fits, tally-less 0 marks y 1 (inside s y h) new (λ p. omega arith))
 
-    pub push : (m : ℕ) → 0 < m → m < 8 → ((i z : ℕ) → suc i < m → readAt g y i ≡ Signal z → ⊥) → next < N → Above g stack len y
-        → Went s (set marks y m) (set pos y len) (set stack len y) (set heads count len) (set path depth y) order next (depth + 1) (len + 1) (count + 1) done best
+    pub push : (m : ℕ) → 0 < m → m < 8 → ((i z : ℕ) → suc i < m → readAt g y i ≡ Signal z → ⊥) → next < N → Above g b p y
+        → Scanned g N marks p (opened b p y m) (oneMore p)
     push m some few none l into = (
       record {
         bounded = s .bounded;
         small = s .small;
-        sized = length-set marks y m ∙ s .sized;
-        pos-sized = length-set pos y len ∙ s .pos-sized;
-        stack-sized = length-set stack len y ∙ s .stack-sized;
-        heads-sized = length-set heads count len ∙ s .heads-sized;
-        path-sized = length-set path depth y ∙ s .path-sized;
-        order-sized = s .order-sized;
+        sized = record {
+          marks = length-set marks y m ∙ s .sized .marks;
+          pos = length-set pos y len ∙ s .sized .pos;
+          stack = length-set stack len y ∙ s .sized .stack;
+          heads = length-set heads count len ∙ s .sized .heads;
+          path = length-set path depth y ∙ s .sized .path;
+          order = s .sized .order;
+        };
         next-le = s .next-le;
         ended = λ w. absurd (omega arith);
         low = λ z. stored marks y m z hm (λ _ q. omega arith) (λ _ q. rw q (s .low z));
@@ -97,7 +103,7 @@ module _ {g : ℕ → Gate} {N : ℕ} {marks pos stack heads path order : List �
         judged = λ x c d. s .judged x (closed-back c) d;
         best-le = s .best-le;
         best-loop = s .best-loop;
-        listed = listed-keep g N marks order done best best y m hm (λ w. omega arith) (λ w. omega arith) (λ w. w) (s .listed);
+        listed = listed-keep g N b p y m best hm (λ w. omega arith) (λ w. omega arith) (λ w. w) (s .listed);
       },
       omega (arith, room-less marks y m hm (omega arith) (omega arith)),
     )
@@ -106,19 +112,19 @@ module _ {g : ℕ → Gate} {N : ℕ} {marks pos stack heads path order : List �
         hm = inside s y h
 
         hs : len < length stack
-        hs = omega (arith, len-lt, s .stack-sized)
+        hs = omega (arith, len-lt, s .sized .stack)
 
         hh : count < length heads
-        hh = omega (arith, len-lt, count-le s, s .heads-sized)
+        hh = omega (arith, len-lt, count-le s, s .sized .heads)
 
         hp : depth < length path
-        hp = omega (arith, len-lt, depth-le s, s .path-sized)
+        hp = omega (arith, len-lt, depth-le s, s .sized .path)
 
         mark-y : getD (set marks y m) y 0 ≡ m
         mark-y = getD-set-same marks y m 0 hm
 
         pos-y : getD (set pos y len) y 0 ≡ len
-        pos-y = getD-set-same pos y len 0 (omega (arith, s .pos-sized))
+        pos-y = getD-set-same pos y len 0 (omega (arith, s .sized .pos))
 
         last-head : getD (set heads count len) count 0 ≡ len
         last-head = getD-set-same heads count len 0 hh
@@ -138,20 +144,20 @@ module _ {g : ℕ → Gate} {N : ℕ} {marks pos stack heads path order : List �
         not-y : (z : ℕ) → 0 < getD marks z 0 → z ≡ y → ⊥
         not-y z k e = omega (arith, rw e at k)
 
-        pos-old : {z : ℕ} → On pos stack len z → getD (set pos y len) z 0 ≡ getD pos z 0
+        pos-old : {z : ℕ} → On b p z → getD (set pos y len) z 0 ≡ getD pos z 0
         pos-old {z} o = getD-set-other pos y z len 0 (not-y z (on-seen s o))
 
-        on-old : {z : ℕ} → On pos stack len z → On (set pos y len) (set stack len y) (len + 1) z
+        on-old : {z : ℕ} → On b p z → On (opened b p y m) (oneMore p) z
         on-old {z} o =
             record {
               below = rw (pos-old o) (omega (arith, o .below));
               holds = rw (pos-old o, getD-set-other stack len (getD pos z 0) y 0 (λ e. omega (arith, o .below))) (o .holds);
             }
 
-        on-y : On (set pos y len) (set stack len y) (len + 1) y
+        on-y : On (opened b p y m) (oneMore p) y
         on-y = record { below = rw pos-y (omega arith); holds = rw pos-y (getD-set-same stack len y 0 hs) }
 
-        on-back : {z : ℕ} → On (set pos y len) (set stack len y) (len + 1) z → (z ≡ y → ⊥) → On pos stack len z
+        on-back : {z : ℕ} → On (opened b p y m) (oneMore p) z → (z ≡ y → ⊥) → On b p z
         on-back {z} o d =
             stored stack len y (getD pos z 0) hs
             (λ p q. absurd (d (sym (o .holds) ∙ rw (getD-set-other pos y z len 0 d) q)))
@@ -160,10 +166,10 @@ module _ {g : ℕ → Gate} {N : ℕ} {marks pos stack heads path order : List �
               holds = sym q ∙ (rw (getD-set-other pos y z len 0 d) at (o .holds));
             })
 
-        closed-new : {z : ℕ} → Closed marks pos stack len z → Closed (set marks y m) (set pos y len) (set stack len y) (len + 1) z
+        closed-new : {z : ℕ} → Closed b p z → Closed (opened b p y m) (oneMore p) z
         closed-new c = record { seen = seen-old _ (c .seen); off = λ o. c .off (on-back o (not-y _ (c .seen))) }
 
-        closed-back : {z : ℕ} → Closed (set marks y m) (set pos y len) (set stack len y) (len + 1) z → Closed marks pos stack len z
+        closed-back : {z : ℕ} → Closed (opened b p y m) (oneMore p) z → Closed b p z
         closed-back {z} c =
             stored marks y m z hm
             (λ p q. absurd (c .off (rw p on-y)))
@@ -175,8 +181,8 @@ module _ {g : ℕ → Gate} {N : ℕ} {marks pos stack heads path order : List �
         last-y : Before (set path depth y) (depth + 1) y
         last-y = (depth, omega arith, getD-set-same path depth y 0 hp)
 
-        kept : {x z : ℕ} → On pos stack len x → Passed marks pos stack heads len count best x z
-            → Passed (set marks y m) (set pos y len) (set stack len y) (set heads count len) (len + 1) (count + 1) best x z
+        kept : {x z : ℕ} → On b p x → Passed b p x z
+            → Passed (opened b p y m) (oneMore p) x z
         kept o (inl c) = inl (closed-new c)
         kept {x} {z} o (inr w) =
             inr (record {
@@ -188,21 +194,16 @@ module _ {g : ℕ → Gate} {N : ℕ} {marks pos stack heads path order : List �
             })
 
   -- nothing is open
-  pub above-root : (y : ℕ) → depth ≡ 0 → Above g stack len y
+  pub above-root : (y : ℕ) → depth ≡ 0 → Above g b p y
   above-root y e i l = absurd (omega (arith, empty s e))
 
   -- a root that is seen is passed
-  pub pass : next < N → (getD marks next 0 ≡ 0 → ⊥) → depth ≡ 0 → Went s marks pos stack heads path order (next + 1) depth len count done best
+  pub pass : next < N → (getD marks next 0 ≡ 0 → ⊥) → depth ≡ 0 → Scanned g N marks p b (passed p)
   pass l d e = (
     record {
       bounded = s .bounded;
       small = s .small;
       sized = s .sized;
-      pos-sized = s .pos-sized;
-      stack-sized = s .stack-sized;
-      heads-sized = s .heads-sized;
-      path-sized = s .path-sized;
-      order-sized = s .order-sized;
       next-le = omega arith;
       ended = λ _. e;
       low = s .low;
@@ -229,35 +230,29 @@ module _ {g : ℕ → Gate} {N : ℕ} {marks pos stack heads path order : List �
         loops = s .best-loop;
         least = λ y l d. omega (arith, s .judged y (shut y (omega (arith, s .best-le))) d);
         ordered = λ b. record {
-          size = s .order-sized;
+          size = s .sized .order;
           each = λ i l. record {
-            below = omega (arith, s .sized, in-list marks (getD order i 0) (omega (arith, s .listed .finished i (omega (arith, full)))));
+            below = omega (arith, s .sized .marks, in-list marks (getD order i 0) (omega (arith, s .listed .finished i (omega (arith, full)))));
             first = λ w. s .listed .once (w .0) i (w .1) (omega (arith, full)) (w .2);
             after = λ y r. s .listed .after b i y (omega (arith, full)) r;
           };
         };
       }
     where
-      shut : (x : ℕ) → x < N → Closed marks pos stack len x
+      shut : (x : ℕ) → x < N → Closed b p x
       shut x l = record { seen = s .started x (omega arith); off = λ o. omega (arith, o .below, empty s (s .ended e)) }
 
       full : done ≡ N
-      full = s .listed .counted ∙ tally-all 8 marks (λ x l. closed-done s x (shut x (omega (arith, s .sized)))) ∙ s .sized
+      full = s .listed .counted ∙ tally-all 8 marks (λ x l. closed-done s x (shut x (omega (arith, s .sized .marks)))) ∙ s .sized .marks
 
 -- the state at the start
-pub start : (g : ℕ → Gate) (N : ℕ) (marks pos stack heads path order : List ℕ) → WellFormed (readsIn g) N → N ≤ signalLimit → length marks ≡ N → length pos ≡ N → length stack ≡ N
-    → length heads ≡ N → length path ≡ N → length order ≡ N → ((x : ℕ) → getD marks x 0 ≡ 0)
-    → Components g N marks pos stack heads path order 0 0 0 0 0 N
-start g N marks pos stack heads path order bounded small sized pos-sized stack-sized heads-sized path-sized order-sized unseen =
+pub start : (g : ℕ → Gate) (N : ℕ) (b : Search) → WellFormed (readsIn g) N → N ≤ signalLimit → Sized N b
+    → ((x : ℕ) → getD (b .marks) x 0 ≡ 0) → Components g N b (scanFrom N)
+start g N b bounded small sized unseen =
     record {
       bounded = bounded;
       small = small;
       sized = sized;
-      pos-sized = pos-sized;
-      stack-sized = stack-sized;
-      heads-sized = heads-sized;
-      path-sized = path-sized;
-      order-sized = order-sized;
       next-le = zero-le;
       ended = λ _. refl;
       low = λ x. omega (arith, unseen x);
@@ -265,7 +260,7 @@ start g N marks pos stack heads path order bounded small sized pos-sized stack-s
       placed = record {
         at = λ i l. absurd (omega arith);
         seen = λ i l. absurd (omega arith);
-        fits = omega (arith, tally-le 0 marks);
+        fits = omega (arith, sized .marks, tally-le 0 (b .marks));
       };
       headed = record {
         low = λ k l. absurd (omega arith);
@@ -289,7 +284,7 @@ start g N marks pos stack heads path order bounded small sized pos-sized stack-s
       best-le = omega arith;
       best-loop = λ l. absurd (omega arith);
       listed = record {
-        counted = sym (tally-none 8 marks (λ i e. omega (arith, unseen i)));
+        counted = sym (tally-none 8 (b .marks) (λ i e. omega (arith, unseen i)));
         finished = λ i l. absurd (omega arith);
         named = λ x e. absurd (omega (arith, unseen x));
         once = λ i j l m e. omega arith;

@@ -1,6 +1,4 @@
--- The invariant of the path-based search for strongly connected components. A mark is as in `Tally`. Signals are put on `stack` as they
--- are opened, at the place `pos` says; a component that is closed is cut off the end of the stack. `heads` has the places of the stack
--- where its components begin, as far as they are known, and `path` has the open signals. `best` is the smallest signal known to be on a loop.
+-- The invariant of the path-based search for strongly connected components, over its buffers b and where it stands, p.
 use Prim.Native.Nat.{ℕ, suc, _+_, _*_, _-_, _≤_, _<_}
 use mathlib.Core.Path.{_≡_}
 use mathlib.Core.Logic.{_⊎_}
@@ -16,149 +14,169 @@ use Rattle.netlist.specs.Settle.{readsIn}
 use Rattle.netlist.specs.Table.{signalLimit}
 use Rattle.toposort.specs.Reading.{readAt}
 use Rattle.toposort.specs.Tally.{tally, room}
-
--- x is on the stack
-pub record On (pos stack : List ℕ) (len x : ℕ) : Type 0 where
-  pub below : getD pos x 0 < len
-  pub holds : getD stack (getD pos x 0) 0 ≡ x
-
--- x is seen, and its component is closed
-pub record Closed (marks pos stack : List ℕ) (len x : ℕ) : Type 0 where
-  pub seen : 0 < getD marks x 0
-  pub off : On pos stack len x → ⊥
+use Rattle.toposort.specs.Search.{Search}
 
 -- x is open
 pub record Open (marks : List ℕ) (x : ℕ) : Type 0 where
   pub seen : 0 < getD marks x 0
   pub left : getD marks x 0 < 8
 
--- place i of the stack is in the component of place j, or in an earlier one
-abbrev pub Within : List ℕ → ℕ → ℕ → ℕ → Type 0
-Within heads count i j = (k : ℕ) → k < count → getD heads k 0 ≤ i → getD heads k 0 ≤ j
+-- each buffer has an entry for each of N signals
+abbrev pub Sized : ℕ → Search → Type 0
+Sized N b =
+    record {
+      marks : length (b .marks) ≡ N;
+      pos : length (b .pos) ≡ N;
+      stack : length (b .stack) ≡ N;
+      heads : length (b .heads) ≡ N;
+      path : length (b .path) ≡ N;
+      order : length (b .order) ≡ N;
+    }
 
--- a read of y by x that is done, where y is on the stack: y is in no earlier component than x, and x is on a loop and counted
-pub record Met (pos stack heads : List ℕ) (len count best x y : ℕ) : Type 0 where
-  pub on : On pos stack len y
-  pub least : best ≤ x
-  pub within : Within heads count (getD pos x 0) (getD pos y 0)
+module _ (b : Search) (p : Scan) where
+  open Search b using (marks, pos, stack, heads, path, order)
+  open Scan p using (next, depth, len, count, done, best)
 
--- a read of y by x that is done
-abbrev pub Passed : List ℕ → List ℕ → List ℕ → List ℕ → ℕ → ℕ → ℕ → ℕ → ℕ → Type 0
-Passed marks pos stack heads len count best x y = Closed marks pos stack len y ⊎ Met pos stack heads len count best x y
+  -- x is on the stack
+  abbrev pub On : ℕ → Type 0
+  On x = record { below : getD pos x 0 < len; holds : getD stack (getD pos x 0) 0 ≡ x }
 
--- the stack holds seen signals, each at its place, and has room for the unseen ones
-pub record Placed (N : ℕ) (marks pos stack : List ℕ) (len : ℕ) : Type 0 where
-  pub at : (i : ℕ) → i < len → getD pos (getD stack i 0) 0 ≡ i
-  pub seen : (i : ℕ) → i < len → 0 < getD marks (getD stack i 0) 0
-  pub fits : len + tally 0 marks ≤ N
+  -- x is seen, and its component is closed
+  abbrev pub Closed : ℕ → Type 0
+  Closed x = record { seen : 0 < getD marks x 0; off : On x → ⊥ }
 
--- the components on the stack begin at open signals, the first at place 0
-pub record Headed (stack heads path : List ℕ) (len count depth : ℕ) : Type 0 where
-  pub low : (k : ℕ) → k < count → k ≤ getD heads k 0
-  pub inside : (k : ℕ) → k < count → getD heads k 0 < len
-  pub sorted : (i j : ℕ) → i < j → j < count → getD heads i 0 < getD heads j 0
-  pub some : 0 < len → 0 < count
-  pub bottom : 0 < count → getD heads 0 0 ≡ 0
-  pub begun : (k : ℕ) → k < count → Before path depth (getD stack (getD heads k 0) 0)
+  -- place i of the stack is in the component of place j, or in an earlier one
+  abbrev pub Within : ℕ → ℕ → Type 0
+  Within i j = (k : ℕ) → k < count → getD heads k 0 ≤ i → getD heads k 0 ≤ j
 
--- the path has the open signals, in the order of their places on the stack
-pub record Pathed (marks pos stack path : List ℕ) (len depth : ℕ) : Type 0 where
-  pub low : (i : ℕ) → i < depth → i ≤ getD pos (getD path i 0) 0
-  pub on : (i : ℕ) → i < depth → On pos stack len (getD path i 0)
-  pub opened : (i : ℕ) → i < depth → Open marks (getD path i 0)
-  pub sorted : (i j : ℕ) → i < j → j < depth → getD pos (getD path i 0) 0 < getD pos (getD path j 0) 0
-  pub named : (x : ℕ) → Open marks x → Before path depth x
+  -- a read of y by x that is done, where y is on the stack: y is in no earlier component than x, and x is on a loop and counted
+  abbrev pub Met : ℕ → ℕ → Type 0
+  Met x y = record { on : On y; least : best ≤ x; within : Within (getD pos x 0) (getD pos y 0) }
 
--- what the search may still do
-abbrev pub left : ℕ → List ℕ → ℕ → ℕ → ℕ
-left N marks next count = 2 * room marks + count + (N - next)
+  -- a read of y by x that is done
+  abbrev pub Passed : ℕ → ℕ → Type 0
+  Passed x y = Closed y ⊎ Met x y
 
--- what the choice of the next turn needs
-pub record TopReady (N : ℕ) (marks pos stack heads : List ℕ) (len count top : ℕ) : Type 0 where
-  pub small : N ≤ signalLimit
-  pub sized : length marks ≡ N
-  pub pos-sized : length pos ≡ N
-  pub stack-sized : length stack ≡ N
-  pub heads-sized : length heads ≡ N
-  pub len-le : len ≤ N
-  pub count-le : count ≤ N
-  pub some : 0 < count
-  pub top-below : top < N
-  pub top-open : Open marks top
+  -- the components on the stack begin at open signals, the first at place 0
+  abbrev pub Headed : Type 0
+  Headed =
+      record {
+        low : (k : ℕ) → k < count → k ≤ getD heads k 0;
+        inside : (k : ℕ) → k < count → getD heads k 0 < len;
+        sorted : (i j : ℕ) → i < j → j < count → getD heads i 0 < getD heads j 0;
+        some : 0 < len → 0 < count;
+        bottom : 0 < count → getD heads 0 0 ≡ 0;
+        begun : (k : ℕ) → k < count → Before path depth (getD stack (getD heads k 0) 0);
+      }
 
-module _ (g : ℕ → Gate) where
-  -- x is y, or depends on it
-  abbrev pub Reaches : ℕ → ℕ → Type 0
-  Reaches x y = (x ≡ y) ⊎ Depends (readsIn g) x y
+  -- the path has the open signals, in the order of their places on the stack
+  abbrev pub Pathed : Type 0
+  Pathed =
+      record {
+        low : (i : ℕ) → i < depth → i ≤ getD pos (getD path i 0) 0;
+        on : (i : ℕ) → i < depth → On (getD path i 0);
+        opened : (i : ℕ) → i < depth → Open marks (getD path i 0);
+        sorted : (i j : ℕ) → i < j → j < depth → getD pos (getD path i 0) 0 < getD pos (getD path j 0) 0;
+        named : (x : ℕ) → Open marks x → Before path depth x;
+      }
+
+module _ (N : ℕ) (b : Search) (p : Scan) where
+  open Search b using (marks, pos, stack, heads)
+  open Scan p using (len, count)
+
+  -- the stack holds seen signals, each at its place, and has room for the unseen ones
+  abbrev pub Placed : Type 0
+  Placed =
+      record {
+        at : (i : ℕ) → i < len → getD pos (getD stack i 0) 0 ≡ i;
+        seen : (i : ℕ) → i < len → 0 < getD marks (getD stack i 0) 0;
+        fits : len + tally 0 marks ≤ N;
+      }
+
+  -- what the choice of the next turn needs
+  abbrev pub TopReady : ℕ → Type 0
+  TopReady top =
+      record {
+        small : N ≤ signalLimit;
+        marks-sized : length marks ≡ N;
+        pos-sized : length pos ≡ N;
+        stack-sized : length stack ≡ N;
+        heads-sized : length heads ≡ N;
+        len-le : len ≤ N;
+        count-le : count ≤ N;
+        some : 0 < count;
+        top-below : top < N;
+        top-open : Open marks top;
+      }
+
+-- x is y, or depends on it
+abbrev pub Reaches : (ℕ → Gate) → ℕ → ℕ → Type 0
+Reaches g x y = (x ≡ y) ⊎ Depends (readsIn g) x y
+
+-- every signal on the stack depends on y
+abbrev pub Above : (ℕ → Gate) → Search → Scan → ℕ → Type 0
+Above g b p y = (i : ℕ) → i < p .len → Depends (readsIn g) (getD (b .stack) i 0) y
+
+module _ (g : ℕ → Gate) (N : ℕ) (b : Search) (p : Scan) where
+  open Search b using (marks, pos, stack, heads, order)
+  open Scan p using (next, depth, len, count, done, best)
 
   -- the order so far: its first done entries are the done signals, each after what it reads as long as no loop is known
-  pub record Listed (N : ℕ) (marks order : List ℕ) (done best : ℕ) : Type 0 where
-    pub counted : done ≡ tally 8 marks
-    pub finished : (i : ℕ) → i < done → getD marks (getD order i 0) 0 ≡ 8
-    pub named : (x : ℕ) → getD marks x 0 ≡ 8 → Before order done x
-    pub once : (i j : ℕ) → i < j → j < done → getD order i 0 ≡ getD order j 0 → ⊥
-    pub after : best ≡ N → (i y : ℕ) → i < done → Reads (readsIn g) (getD order i 0) y → Before order i y
+  abbrev pub Listed : Type 0
+  Listed =
+      record {
+        counted : done ≡ tally 8 marks;
+        finished : (i : ℕ) → i < done → getD marks (getD order i 0) 0 ≡ 8;
+        named : (x : ℕ) → getD marks x 0 ≡ 8 → Before order done x;
+        once : (i j : ℕ) → i < j → j < done → getD order i 0 ≡ getD order j 0 → ⊥;
+        after : best ≡ N → (i y : ℕ) → i < done → Reads (readsIn g) (getD order i 0) y → Before order i y;
+      }
 
-  -- the state of the search over N signals
-  pub record Components (N : ℕ) (marks pos stack heads path order : List ℕ) (next depth len count done best : ℕ) : Type 0 where
+  -- the state of the search over N signals; `best` is the smallest signal known to be on a loop, or N
+  pub record Components : Type 0 where
     pub bounded : WellFormed (readsIn g) N
     pub small : N ≤ signalLimit
-    pub sized : length marks ≡ N
-    pub pos-sized : length pos ≡ N
-    pub stack-sized : length stack ≡ N
-    pub heads-sized : length heads ≡ N
-    pub path-sized : length path ≡ N
-    pub order-sized : length order ≡ N
+    pub sized : Sized N b
     pub next-le : next ≤ N
     pub ended : next ≡ N → depth ≡ 0
     pub low : (x : ℕ) → getD marks x 0 ≤ 8
     pub started : (x : ℕ) → x < next → 0 < getD marks x 0
-    pub placed : Placed N marks pos stack len
-    pub headed : Headed stack heads path len count depth
-    pub pathed : Pathed marks pos stack path len depth
+    pub placed : Placed N b p
+    pub headed : Headed b p
+    pub pathed : Pathed b p
     -- a signal on the stack reaches those of its component and of later ones
-    pub reach : (i j : ℕ) → i < len → j < len → Within heads count i j → Reaches (getD stack i 0) (getD stack j 0)
-    pub looked : (x i y : ℕ) → On pos stack len x → suc i < getD marks x 0 → i < 6 → readAt g x i ≡ Signal y
-        → Passed marks pos stack heads len count best x y
-    pub closed : (x y : ℕ) → Closed marks pos stack len x → Reads (readsIn g) x y → Closed marks pos stack len y
-    pub judged : (x : ℕ) → Closed marks pos stack len x → Loop (readsIn g) x → best ≤ x
+    pub reach : (i j : ℕ) → i < len → j < len → Within b p i j → Reaches g (getD stack i 0) (getD stack j 0)
+    pub looked : (x i y : ℕ) → On b p x → suc i < getD marks x 0 → i < 6 → readAt g x i ≡ Signal y → Passed b p x y
+    pub closed : (x y : ℕ) → Closed b p x → Reads (readsIn g) x y → Closed b p y
+    pub judged : (x : ℕ) → Closed b p x → Loop (readsIn g) x → best ≤ x
     pub best-le : best ≤ N
     pub best-loop : best < N → Loop (readsIn g) best
-    pub listed : Listed N marks order done best
-
-  abbrev pub Scanning : ℕ → List ℕ → List ℕ → List ℕ → List ℕ → List ℕ → List ℕ → Scan → Type 0
-  Scanning N marks pos stack heads path order p =
-      Components N marks pos stack heads path order (p .next) (p .depth) (p .len) (p .count) (p .done) (p .best)
-
-  -- what a step from the marks old and the place p leaves
-  abbrev pub Scanned : ℕ → List ℕ → Scan → List ℕ → List ℕ → List ℕ → List ℕ → List ℕ → List ℕ → Scan → Type 0
-  Scanned N old p marks pos stack heads path order q =
-      Scanning N marks pos stack heads path order q
-      × (left N marks (q .next) (q .count) < left N old (p .next) (p .count))
-
-  -- every signal on the stack depends on y
-  abbrev pub Above : List ℕ → ℕ → ℕ → Type 0
-  Above stack len y = (i : ℕ) → i < len → Depends (readsIn g) (getD stack i 0) y
+    pub listed : Listed
 
   -- what the mark of the top, and the signal it reads next, say
-  abbrev pub Wants : ℕ → List ℕ → List ℕ → List ℕ → List ℕ → ℕ → ℕ → ℕ → Turn → Type 0
-  Wants N marks pos stack heads len count top (Close at) =
-      (getD marks top 0 ≡ 7) × (at ≡ getD pos top 0) × (getD pos top 0 ≡ getD heads (count - 1) 0)
-  Wants N marks pos stack heads len count top Leave =
-      (getD marks top 0 ≡ 7) × (getD pos top 0 ≡ getD heads (count - 1) 0 → ⊥)
-  Wants N marks pos stack heads len count top Raise =
-      (getD marks top 0 ≡ 7 → ⊥)
-      × ((i y : ℕ) → suc i ≡ getD marks top 0 → readAt g top i ≡ Signal y → Closed marks pos stack len y)
-  Wants N marks pos stack heads len count top (OpenUnseen y) = (y < N) × Reads (readsIn g) top y × (getD marks y 0 ≡ 0)
-  Wants N marks pos stack heads len count top (Merge y) =
-      Reads (readsIn g) top y × On pos stack len y × (getD pos y 0 < getD heads (count - 1) 0)
-  Wants N marks pos stack heads len count top (Meet y) =
-      Reads (readsIn g) top y × On pos stack len y × (getD heads (count - 1) 0 ≤ getD pos y 0)
+  abbrev pub Wants : ℕ → Turn → Type 0
+  Wants top (Close at) = (getD marks top 0 ≡ 7) × (at ≡ getD pos top 0) × (getD pos top 0 ≡ getD heads (count - 1) 0)
+  Wants top Leave = (getD marks top 0 ≡ 7) × (getD pos top 0 ≡ getD heads (count - 1) 0 → ⊥)
+  Wants top Raise =
+      (getD marks top 0 ≡ 7 → ⊥) × ((i y : ℕ) → suc i ≡ getD marks top 0 → readAt g top i ≡ Signal y → Closed b p y)
+  Wants top (OpenUnseen y) = (y < N) × Reads (readsIn g) top y × (getD marks y 0 ≡ 0)
+  Wants top (Merge y) = Reads (readsIn g) top y × On b p y × (getD pos y 0 < getD heads (count - 1) 0)
+  Wants top (Meet y) =
+      Reads (readsIn g) top y × On b p y × (getD heads (count - 1) 0 ≤ getD pos y 0)
       × (getD marks top 0 ≡ 7 → ⊥)
       × ((i z : ℕ) → suc i ≡ getD marks top 0 → readAt g top i ≡ Signal z → z ≡ y)
 
+-- what the search may still do
+abbrev pub remaining : ℕ → List ℕ → Scan → ℕ
+remaining N marks p = 2 * room marks + p .count + (N - p .next)
+
+module _ (g : ℕ → Gate) (N : ℕ) where
+  -- what a step from the marks old and the place p leaves
+  abbrev pub Scanned : List ℕ → Scan → Search → Scan → Type 0
+  Scanned old p b q = Components g N b q × (remaining N (b .marks) q < remaining N old p)
+
   -- best is the smallest signal below N that is on a loop, or N, and then the order is topological
-  pub record Least (N : ℕ) (order : List ℕ) (best : ℕ) : Type 0 where
+  pub record Least (order : List ℕ) (best : ℕ) : Type 0 where
     pub best-le : best ≤ N
     pub loops : best < N → Loop (readsIn g) best
     pub least : (y : ℕ) → y < best → Loop (readsIn g) y → ⊥

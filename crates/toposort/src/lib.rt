@@ -6,11 +6,14 @@ ghost use lib.ListN.{length, getD, set};
 ghost use Rattle.lent.specs.Lent.{was, left};
 ghost use Rattle.netlist.specs.Graph.{WellFormed};
 ghost use Rattle.netlist.specs.Settle.{readsIn};
-ghost use Rattle.netlist.specs.Table.{signalLimit, sourceOf, gateOf};
+ghost use Rattle.netlist.specs.Table.{signalLimit, rowLength, signalCount, IsTable, sourceOf, gateOf};
 ghost use Rattle.toposort.specs.Reading.{asRead, readAt, placeCount, firstMark};
 ghost use Rattle.toposort.specs.Answer.{OrderOrLoop};
-ghost use Rattle.toposort.specs.Components.{Components, TopReady, Wants, Scanning, Scanned, Above, Least};
+ghost use Rattle.toposort.specs.Search.{searchIn, searchLeft, stackIn, stackWas, scanFrom, withBest, cutTo};
+ghost use Rattle.toposort.specs.Components.{TopReady, Above, Components, Wants, Scanned, Least};
+use netlist::ROW;
 use netlist::SIGNAL_LIMIT;
+use netlist::SLICE_SIGNALS;
 
 // The answer of the search for loops: the smallest signal on one, or none, with an order.
 pub enum Sorted {
@@ -49,7 +52,7 @@ fn read_of(code: usize) -> Read
 
 // How many sources a gate with this head reads.
 fn place_count(n: usize, head: usize) -> usize
-    requires { ⌜ 32 * n ≤ signalLimit ⌝ }
+    requires { ⌜ signalCount n ≤ signalLimit ⌝ }
     ensures { λ r. ⌜ r ≡ placeCount n head ⌝ }
 {
     if head < 4 * n {
@@ -67,10 +70,10 @@ fn place_count(n: usize, head: usize) -> usize
 
 // What signal x reads at place i, from its sixth source down to its first.
 fn read_at(table: &[u16], n: usize, x: usize, i: usize) -> Read
-    requires { ⌜ (32 * n ≤ signalLimit) × (length (now table) ≡ 224 * n) × (x < 32 * n) × (i < 6) ⌝ }
+    requires { ⌜ IsTable n (now table) × (x < signalCount n) × (i < 6) ⌝ }
     ensures { λ r. ⌜ r ≡ readAt (gateOf (was table) n) x i ⌝ }
 {
-    let at = 7 * x;
+    let at = ROW * x;
     let head = wide16(table[at]);
     let source = 5 - i;
     if source < place_count(n, head) {
@@ -82,10 +85,10 @@ fn read_at(table: &[u16], n: usize, x: usize, i: usize) -> Read
 
 // The mark of signal x when it is opened, past the places that its gate doesn't have.
 fn first_mark(table: &[u16], n: usize, x: usize) -> u8
-    requires { ⌜ (32 * n ≤ signalLimit) × (length (now table) ≡ 224 * n) × (x < 32 * n) ⌝ }
-    ensures { λ r. ⌜ r ≡ firstMark n (getD (was table) (7 * x) 0) ⌝ }
+    requires { ⌜ IsTable n (now table) × (x < signalCount n) ⌝ }
+    ensures { λ r. ⌜ r ≡ firstMark n (getD (was table) (rowLength * x) 0) ⌝ }
 {
-    let head = wide16(table[7 * x]);
+    let head = wide16(table[ROW * x]);
     let places = place_count(n, head);
     (7 - places) as u8
 }
@@ -121,15 +124,15 @@ fn next_turn(
     pos: &[u16],
     stack: &[u16],
     heads: &[u16],
-    len: usize,
-    count: usize,
+    p: Scan,
     top: usize,
 ) -> Turn
-    requires { ⌜ WellFormed (readsIn (gateOf (now table) n)) (32 * n) × (length (now table) ≡ 224 * n) ⌝ }
-    requires { ⌜ TopReady (32 * n) (now marks) (now pos) (now stack) (now heads) len count top ⌝ }
-    ensures { λ r. ⌜ Wants (gateOf (was table) n) (32 * n) (was marks) (was pos) (was stack) (was heads) len count top r ⌝ }
+    requires { ⌜ IsTable n (now table) × WellFormed (readsIn (gateOf (now table) n)) (signalCount n) ⌝ }
+    requires { ⌜ TopReady (signalCount n) (stackIn marks pos stack heads) p top ⌝ }
+    ensures { λ r. ⌜ Wants (gateOf (was table) n) (signalCount n) (stackWas marks pos stack heads) p top r ⌝ }
 {
-    let last = count - 1;
+    let len = p.len;
+    let last = p.count - 1;
     let head = wide16(heads[last]);
     let mark = marks[top];
     if mark == 7 {
@@ -173,10 +176,10 @@ fn open_signal(
     p: Scan,
     y: usize,
 ) -> Scan
-    requires { ⌜ Scanning (gateOf (now table) n) (32 * n) (now marks) (now pos) (now stack) (now heads) (now path) (now order) p ⌝ }
-    requires { ⌜ (p .next < 32 * n) × (y < 32 * n) × (getD (now marks) y 0 ≡ 0) × (length (now table) ≡ 224 * n) ⌝ }
-    requires { ⌜ Above (gateOf (now table) n) (now stack) (p .len) y ⌝ }
-    ensures { λ r. ⌜ Scanned (gateOf (was table) n) (32 * n) (was marks) p (left marks) (left pos) (left stack) (left heads) (left path) (left order) r ⌝ }
+    requires { ⌜ Components (gateOf (now table) n) (signalCount n) (searchIn marks pos stack heads path order) p ⌝ }
+    requires { ⌜ IsTable n (now table) × (p .next < signalCount n) × (y < signalCount n) × (getD (now marks) y 0 ≡ 0) ⌝ }
+    requires { ⌜ Above (gateOf (now table) n) (searchIn marks pos stack heads path order) p y ⌝ }
+    ensures { λ r. ⌜ Scanned (gateOf (was table) n) (signalCount n) (was marks) p (searchLeft marks pos stack heads path order) r ⌝ }
 {
     let len = p.len;
     let count = p.count;
@@ -203,9 +206,10 @@ fn close_top(
     len: usize,
     count: usize,
 ) -> Scan
-    requires { ⌜ (top < length (now marks)) × (top < signalLimit) × (p .done < length (now order)) × (p .done < signalLimit) × (0 < p .depth) ⌝ }
+    requires { ⌜ (top < length (now marks)) × (p .done < length (now order)) ⌝ }
+    requires { ⌜ (top < signalLimit) × (p .done < signalLimit) × (0 < p .depth) ⌝ }
     ensures { λ _. ⌜ (left marks ≡ set (was marks) top 8) × (left order ≡ set (was order) (p .done) top) ⌝ }
-    ensures { λ r. ⌜ r ≡ record { next = p .next; depth = p .depth - 1; len = len; count = count; done = p .done + 1; best = p .best } ⌝ }
+    ensures { λ r. ⌜ r ≡ cutTo p len count ⌝ }
 {
     let depth = p.depth;
     let done = p.done;
@@ -216,6 +220,17 @@ fn close_top(
     q.len = len;
     q.count = count;
     q.done = done + 1;
+    q
+}
+
+// The top's read is done: its mark rises, and best is the smallest signal now known to be on a loop.
+fn raise_top(marks: &mut [u8], p: Scan, top: usize, best: usize) -> Scan
+    requires { ⌜ (top < length (now marks)) × (top < signalLimit) × (getD (now marks) top 0 < 8) ⌝ }
+    ensures { λ r. ⌜ (left marks ≡ set (was marks) top (getD (was marks) top 0 + 1)) × (r ≡ withBest p best) ⌝ }
+{
+    marks[top] = marks[top] + 1;
+    let mut q = p;
+    q.best = best;
     q
 }
 
@@ -241,31 +256,24 @@ fn take_turn(
     p: Scan,
     top: usize,
 ) -> Scan
-    requires { ⌜ Scanning (gateOf (now table) n) (32 * n) (now marks) (now pos) (now stack) (now heads) (now path) (now order) p ⌝ }
-    requires { ⌜ (p .next < 32 * n) × (0 < p .depth) × (getD (now path) (p .depth - 1) 0 ≡ top) × (length (now table) ≡ 224 * n) ⌝ }
-    ensures { λ r. ⌜ Scanned (gateOf (was table) n) (32 * n) (was marks) p (left marks) (left pos) (left stack) (left heads) (left path) (left order) r ⌝ }
+    requires { ⌜ Components (gateOf (now table) n) (signalCount n) (searchIn marks pos stack heads path order) p ⌝ }
+    requires { ⌜ IsTable n (now table) × (p .next < signalCount n) × (0 < p .depth) × (getD (now path) (p .depth - 1) 0 ≡ top) ⌝ }
+    ensures { λ r. ⌜ Scanned (gateOf (was table) n) (signalCount n) (was marks) p (searchLeft marks pos stack heads path order) r ⌝ }
 {
     let len = p.len;
     let count = p.count;
     let best = p.best;
-    let mut q = p;
-    match next_turn(table, n, marks, pos, stack, heads, len, count, top) {
+    match next_turn(table, n, marks, pos, stack, heads, p, top) {
         Turn::Close(at) => close_top(marks, order, p, top, at, count - 1),
         Turn::Leave => close_top(marks, order, p, top, len, count),
-        Turn::Raise => {
-            marks[top] = marks[top] + 1;
-            p
-        }
+        Turn::Raise => raise_top(marks, p, top, best),
         Turn::Open(y) => open_signal(table, n, marks, pos, stack, heads, path, order, p, y),
         Turn::Merge(_) => {
+            let mut q = p;
             q.count = count - 1;
             q
         }
-        Turn::Meet(_) => {
-            marks[top] = marks[top] + 1;
-            q.best = smaller(top, best);
-            q
-        }
+        Turn::Meet(_) => raise_top(marks, p, top, smaller(top, best)),
     }
 }
 
@@ -281,9 +289,9 @@ fn scan_step(
     order: &mut [u16],
     p: Scan,
 ) -> Scan
-    requires { ⌜ Scanning (gateOf (now table) n) (32 * n) (now marks) (now pos) (now stack) (now heads) (now path) (now order) p ⌝ }
-    requires { ⌜ (p .next < 32 * n) × (length (now table) ≡ 224 * n) ⌝ }
-    ensures { λ r. ⌜ Scanned (gateOf (was table) n) (32 * n) (was marks) p (left marks) (left pos) (left stack) (left heads) (left path) (left order) r ⌝ }
+    requires { ⌜ Components (gateOf (now table) n) (signalCount n) (searchIn marks pos stack heads path order) p ⌝ }
+    requires { ⌜ IsTable n (now table) × (p .next < signalCount n) ⌝ }
+    ensures { λ r. ⌜ Scanned (gateOf (was table) n) (signalCount n) (was marks) p (searchLeft marks pos stack heads path order) r ⌝ }
 {
     let next = p.next;
     let depth = p.depth;
@@ -311,11 +319,11 @@ fn scan_all(
     path: &mut [u16],
     order: &mut [u16],
 ) -> usize
-    requires { ⌜ Components (gateOf (now table) n) (32 * n) (now marks) (now pos) (now stack) (now heads) (now path) (now order) 0 0 0 0 0 (32 * n) ⌝ }
-    requires { ⌜ length (now table) ≡ 224 * n ⌝ }
-    ensures { λ r. ⌜ Least (gateOf (was table) n) (32 * n) (left order) r ⌝ }
+    requires { ⌜ IsTable n (now table) ⌝ }
+    requires { ⌜ Components (gateOf (now table) n) (signalCount n) (searchIn marks pos stack heads path order) (scanFrom (signalCount n)) ⌝ }
+    ensures { λ r. ⌜ Least (gateOf (was table) n) (signalCount n) (left order) r ⌝ }
 {
-    let size = 32 * n;
+    let size = SLICE_SIGNALS * n;
     let mut p = Scan {
         next: 0,
         depth: 0,
@@ -332,16 +340,16 @@ fn scan_all(
 
 // The smallest signal on a loop, or a topological order, of the netlist of n slices in the gate table, in time linear in n.
 pub fn order_or_loop(table: &[u16], n: usize, order: &mut [u16]) -> Sorted
-    requires { ⌜ (32 * n ≤ signalLimit) × (length (now table) ≡ 224 * n) × (length (now order) ≡ 32 * n) ⌝ }
-    requires { ⌜ WellFormed (readsIn (gateOf (now table) n)) (32 * n) ⌝ }
-    ensures { λ r. ⌜ OrderOrLoop (gateOf (was table) n) (32 * n) (left order) r ⌝ }
+    requires { ⌜ IsTable n (now table) × (length (now order) ≡ signalCount n) ⌝ }
+    requires { ⌜ WellFormed (readsIn (gateOf (now table) n)) (signalCount n) ⌝ }
+    ensures { λ r. ⌜ OrderOrLoop (gateOf (was table) n) (signalCount n) (left order) r ⌝ }
 {
     let mut marks = [0u8; SIGNAL_LIMIT];
     let mut pos = [0u16; SIGNAL_LIMIT];
     let mut stack = [0u16; SIGNAL_LIMIT];
     let mut heads = [0u16; SIGNAL_LIMIT];
     let mut path = [0u16; SIGNAL_LIMIT];
-    let size = 32 * n;
+    let size = SLICE_SIGNALS * n;
     let best = scan_all(
         table,
         n,

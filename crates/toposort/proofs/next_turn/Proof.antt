@@ -1,15 +1,17 @@
 -- `toposort::next_turn` meets its contract: the read that the code looked at is the one before the mark of the top. Assumes nothing.
-use Prim.Native.Nat.{ℕ, suc, _*_, _-_, _<_}
+use Prim.Native.Nat.{ℕ, suc, _-_, _<_}
 use mathlib.Core.Path.{_≡_, sym, _∙_}
 use native.Mathlib.Omega.{arith}
 use lib.ListN.{getD}
 use denote.Ref.{now}
+use Rattle.toposort.specs.declared.Read.{Read}
 use Rattle.toposort.specs.declared.Read.the-variants.{Signal}
 use Rattle.netlist.specs.declared.Gate.{Gate}
 use Rattle.netlist.specs.Graph.{Reads}
 use Rattle.netlist.specs.Settle.{readsIn}
-use Rattle.netlist.specs.Table.{gateOf}
+use Rattle.netlist.specs.Table.{signalCount, gateOf}
 use Rattle.toposort.specs.Reading.{readAt}
+use Rattle.toposort.specs.Search.{Search, stackIn}
 use Rattle.toposort.specs.Components.{On, Closed}
 use Rattle.toposort.proofs.Reading.{reads-of, not-both, same-signal}
 use borrow.Author.Needs.{needs}
@@ -17,49 +19,54 @@ use Rattle.toposort.proofs.next_turn.Statement.{statement}
 use Rattle.toposort.proofs.next_turn.Tie as tie
 
 abbrev start : tie.After-read-at → tie.Start
-start c = c .before .before .before .before .before .before .before .before .before .before .before
+start c = c .before .before .before .before .before .before .before .before .before .before .before .before
 
-abbrev net : tie.After-read-at → ℕ → Gate
-net c = gateOf (now (start c .args .table)) (start c .args .n)
+abbrev net : tie.Start → ℕ → Gate
+net s = gateOf (now (s .args .table)) (s .args .n)
 
-abbrev top : tie.After-read-at → ℕ
-top c = start c .args .top
+abbrev buffers : tie.Start → Search
+buffers s = stackIn (s .args .marks) (s .args .pos) (s .args .stack) (s .args .heads)
 
--- the place that the code looked at is the one before the mark
-looked : (c : tie.After-read-at) (i : ℕ) → suc i ≡ getD (now (start c .args .marks)) (top c) 0 → readAt (net c) (top c) i ≡ c .read-at .result
+-- place i of the top is the one before its mark
+abbrev Next : tie.Start → ℕ → Type 0
+Next s i = suc i ≡ getD (now (s .args .marks)) (s .args .top) 0
+
+abbrev readTop : tie.Start → ℕ → Read
+readTop s i = readAt (net s) (s .args .top) i
+
+-- that is the place that the code looked at
+looked : (c : tie.After-read-at) (i : ℕ) → Next (start c) i → readTop (start c) i ≡ c .read-at .result
 looked c i e =
     let h : i ≡ c .before .wide8 .result - 1 = omega (arith, c .before .wide8 .ensures) in
     rw h (sym (c .read-at .ensures))
 
+abbrev begun : tie.After-y → tie.Start
+begun c = start (c .before .before)
+
 abbrev read : tie.After-y → ℕ
 read c = c .y .given .0 .0
 
-top-reads : (c : tie.After-y) → Reads (readsIn (net (c .before .before))) (top (c .before .before)) (read c)
+top-reads : (c : tie.After-y) → Reads (readsIn (net (begun c))) (begun c .args .top) (read c)
 top-reads c =
-    let b = c .before .before in
-    reads-of (net b) (top b) (b .before .wide8 .result - 1) (read c) (sym (b .read-at .ensures) ∙ c .y .given .1)
+    let a = c .before .before in
+    reads-of (net (begun c)) (begun c .args .top) (a .before .wide8 .result - 1) (read c) (sym (a .read-at .ensures) ∙ c .y .given .1)
 
-y-below : (c : tie.After-y) → read c < 32 * start (c .before .before) .args .n
-y-below c = let b = start (c .before .before) in b .pre .0 .0 (b .args .top) (read c) (b .pre .1 .top-below) (top-reads c)
+y-below : (c : tie.After-y) → read c < signalCount (begun c .args .n)
+y-below c = let b = begun c in b .pre .0 .1 (b .args .top) (read c) (b .pre .1 .top-below) (top-reads c)
 
 -- the read is y and no other
-only : (c : tie.After-y) (i z : ℕ) → suc i ≡ getD (now (start (c .before .before) .args .marks)) (top (c .before .before)) 0
-    → readAt (net (c .before .before)) (top (c .before .before)) i ≡ Signal z → z ≡ read c
-only c i z e r = same-signal (net (c .before .before)) _ i z _ r (looked (c .before .before) i e ∙ c .y .given .1)
+only : (c : tie.After-y) (i z : ℕ) → Next (begun c) i → readTop (begun c) i ≡ Signal z → z ≡ read c
+only c i z e r = same-signal (net (begun c)) _ i z _ r (looked (c .before .before) i e ∙ c .y .given .1)
 
 abbrev y-place : tie.After-shared-slice-known9 → tie.After-y
 y-place c = c .before .before
 
 -- y is closed where it is seen and off the stack
 abbrev OnHere : tie.After-y → Type 0
-OnHere a =
-    let b = start (a .before .before) in
-    On (now (b .args .pos)) (now (b .args .stack)) (b .args .len) (read a)
+OnHere a = On (buffers (begun a)) (begun a .args .p) (read a)
 
-closed-read : (a : tie.After-y) → (getD (now (start (a .before .before) .args .marks)) (read a) 0 ≡ 0 → ⊥) → (OnHere a → ⊥)
-    → (i z : ℕ) → suc i ≡ getD (now (start (a .before .before) .args .marks)) (top (a .before .before)) 0
-    → readAt (net (a .before .before)) (top (a .before .before)) i ≡ Signal z
-    → Closed (now (start (a .before .before) .args .marks)) (now (start (a .before .before) .args .pos)) (now (start (a .before .before) .args .stack)) (start (a .before .before) .args .len) z
+closed-read : (a : tie.After-y) → (getD (now (begun a .args .marks)) (read a) 0 ≡ 0 → ⊥) → (OnHere a → ⊥)
+    → (i z : ℕ) → Next (begun a) i → readTop (begun a) i ≡ Signal z → Closed (buffers (begun a)) (begun a .args .p) z
 closed-read a d off i z e r = rw (only a i z e r) (record { seen = omega arith; off = off })
 
 -- the stack was looked at, at the place of y
@@ -73,7 +80,7 @@ on-here c =
     record { below = omega (arith, e, f .if4 .left); holds = rw (← e) (sym (c .before .wide164 .ensures) ∙ c .if5 .taken) }
 
 head : (c : tie.After-y) → c .before .before .before .before .before .before .wide16 .result
-    ≡ getD (now (start (c .before .before) .args .heads)) (start (c .before .before) .args .count - 1) 0
+    ≡ getD (now (begun c .args .heads)) (begun c .args .p .count - 1) 0
 head c = c .before .before .before .before .before .before .wide16 .ensures
 
 sub-last : tie.Need-sub-last
@@ -122,16 +129,16 @@ enum-known-y : tie.Need-enum-known-y
 enum-known-y c = search needs
 
 shared-slice-read-if3 : tie.Need-shared-slice-read-if3
-shared-slice-read-if3 c = let a = c .before .before in omega (arith, y-below a, start (a .before .before) .pre .1 .sized)
+shared-slice-read-if3 c = let a = c .before .before in omega (arith, y-below a, begun a .pre .1 .marks-sized)
 
 returns-3 : tie.Need-returns-3
 returns-3 c = let a = y-place (c .before) in (y-below a, top-reads a, c .if3 .taken)
 
 mul-wide16-3 : tie.Need-mul-wide16-3
-mul-wide16-3 c = let a = y-place (c .before) in omega (arith, y-below a, start (a .before .before) .pre .1 .small)
+mul-wide16-3 c = let a = y-place (c .before) in omega (arith, y-below a, begun a .pre .1 .small)
 
 shared-slice-read-wide16-3 : tie.Need-shared-slice-read-wide16-3
-shared-slice-read-wide16-3 c = let a = y-place (c .before .before) in omega (arith, y-below a, start (a .before .before) .pre .1 .pos-sized)
+shared-slice-read-wide16-3 c = let a = y-place (c .before .before) in omega (arith, y-below a, begun a .pre .1 .pos-sized)
 
 wide16-requires-3 : tie.Need-wide16-requires-3
 wide16-requires-3 c κs = search needs
@@ -140,7 +147,8 @@ returns-4 : tie.Need-returns-4
 returns-4 c =
     let e = c .before .before .before in
     let a = y-place (e .before) in
-    (a .before .before .before .before .if1 .left, closed-read a (e .if3 .left) (λ o. omega (arith, o .below, c .before .wide163 .ensures, c .if4 .taken)))
+    let off : OnHere a → ⊥ = λ o. omega (arith, o .below, c .before .wide163 .ensures, c .if4 .taken) in
+    (a .before .before .before .before .if1 .left, closed-read a (e .if3 .left) off)
 
 mul-wide16-4 : tie.Need-mul-wide16-4
 mul-wide16-4 c = search needs
@@ -171,7 +179,7 @@ returns-6 c =
 returns-7 : tie.Need-returns-7
 returns-7 c =
     let b = c .before .before in
-    (b .before .before .if1 .left, λ i z e r. absurd (not-both (net b) _ i z (looked b i e ∙ c .enum-told .given .1) r))
+    (b .before .before .if1 .left, λ i z e r. absurd (not-both (net (start b)) _ i z (looked b i e ∙ c .enum-told .given .1) r))
 
 returns-8 : tie.Need-returns-8
 returns-8 c =

@@ -3,6 +3,7 @@ use Prim.Native.Nat.{_*_, _≤_, _<_}
 use native.Mathlib.Omega.{arith}
 use lib.ListN.{getD}
 use denote.Ref.{now}
+use Rattle.netlist.specs.Table.{rowLength, signalCount}
 use Rattle.toposort.proofs.Components.{depth-le, count-le}
 use Rattle.toposort.proofs.Opening.{len-lt, push}
 use Rattle.toposort.proofs.Reading.{places-most, none-before}
@@ -11,9 +12,9 @@ use Rattle.toposort.proofs.open_signal.Statement.{statement}
 use Rattle.toposort.proofs.open_signal.Tie as tie
 
 -- the stack has room, and so have the other arrays
-has-room : (c : tie.Start) → (c .args .p .len < 32 * c .args .n) × (c .args .p .count ≤ c .args .p .len) × (c .args .p .depth ≤ c .args .p .len)
+has-room : (c : tie.Start) → (c .args .p .len < signalCount (c .args .n)) × (c .args .p .count ≤ c .args .p .len) × (c .args .p .depth ≤ c .args .p .len)
 has-room c = (
-  len-lt (c .pre .0) _ (c .pre .1 .0 .1) (c .pre .1 .0 .2),
+  len-lt (c .pre .0) _ (c .pre .1 .0 .2) (c .pre .1 .0 .3),
   count-le (c .pre .0),
   depth-le (c .pre .0),
 )
@@ -43,7 +44,7 @@ mul-stack : tie.Need-mul-stack
 mul-stack c = search needs
 
 slice-write-stack : tie.Need-slice-write-stack
-slice-write-stack c = omega (arith, has-room (start c), start c .pre .0 .stack-sized)
+slice-write-stack c = omega (arith, has-room (start c), start c .pre .0 .sized .stack)
 
 cast-heads : tie.Need-cast-heads
 cast-heads c = search needs
@@ -52,7 +53,7 @@ mul-heads : tie.Need-mul-heads
 mul-heads c = omega (arith, has-room (start c), start c .pre .0 .small)
 
 slice-write-heads : tie.Need-slice-write-heads
-slice-write-heads c = omega (arith, has-room (start c), start c .pre .0 .heads-sized)
+slice-write-heads c = omega (arith, has-room (start c), start c .pre .0 .sized .heads)
 
 cast-path : tie.Need-cast-path
 cast-path c = search needs
@@ -61,7 +62,7 @@ mul-path : tie.Need-mul-path
 mul-path c = omega (arith, has-room (start c), start c .pre .0 .small)
 
 slice-write-path : tie.Need-slice-write-path
-slice-write-path c = omega (arith, has-room (start c), start c .pre .0 .path-sized)
+slice-write-path c = omega (arith, has-room (start c), start c .pre .0 .sized .path)
 
 add-q : tie.Need-add-q
 add-q c = omega (arith, has-room (start c), start c .pre .0 .small)
@@ -90,10 +91,10 @@ same-length-5 c = search needs
 returns : tie.Need-returns
 returns c =
     let s = start c in
-    let most = places-most (s .args .n) (getD (now (s .args .table)) (7 * s .args .y) 0) in
+    let most = places-most (s .args .n) (getD (now (s .args .table)) (rowLength * s .args .y) 0) in
     let e = c .first-mark .ensures in
-    push (s .pre .0) _ (s .pre .1 .0 .1) (s .pre .1 .0 .2) _ (omega arith) (omega arith)
-    (λ i z h r. none-before (now (s .args .table)) (s .args .n) (s .args .y) i z (omega arith) r) (s .pre .1 .0 .0) (s .pre .1 .1)
+    push (s .pre .0) _ (s .pre .1 .0 .2) (s .pre .1 .0 .3) _ (omega arith) (omega arith)
+    (λ i z h r. none-before (now (s .args .table)) (s .args .n) (s .args .y) i z (omega arith) r) (s .pre .1 .0 .1) (s .pre .1 .1)
 
 pub open-signal-spec : {M : Type 1} → statement M
 open-signal-spec =

@@ -1,18 +1,19 @@
 -- `toposort::order_or_loop` meets its contract: the parts of the local arrays are zeros, from which the search starts. Assumes nothing.
-use Prim.Native.Nat.{_*_}
 use mathlib.Core.Path.{_≡_, sym}
 use native.Mathlib.Omega.{arith}
 use lib.ListN.{length, take}
 use denote.Ref.{now}
-use Rattle.netlist.specs.Table.{signalLimit}
+use Rattle.netlist.specs.Table.{signalLimit, signalCount}
+use Rattle.toposort.specs.Search.{searchOf}
+use Rattle.toposort.specs.Components.{Sized}
 use Rattle.toposort.proofs.Tally.{zeros, zeros-length, zeros-all}
 use Rattle.toposort.proofs.Opening.{start}
 use borrow.Author.Needs.{needs}
 use Rattle.toposort.proofs.order_or_loop.Statement.{statement}
 use Rattle.toposort.proofs.order_or_loop.Tie as tie
 
-part : (c : tie.Start) → 32 * c .args .n ≡ length (take (32 * c .args .n) (zeros signalLimit))
-part c = sym (zeros-length signalLimit (32 * c .args .n) (c .pre .0 .0))
+part : (c : tie.Start) → signalCount (c .args .n) ≡ length (take (signalCount (c .args .n)) (zeros signalLimit))
+part c = sym (zeros-length signalLimit (signalCount (c .args .n)) (c .pre .0 .0 .0))
 
 mul-size : tie.Need-mul-size
 mul-size c = search needs
@@ -50,9 +51,12 @@ slice-aggregate-scan-all-5 c = part (c .before .before .before .before .before .
 scan-all-requires : tie.Need-scan-all-requires
 scan-all-requires c κs =
     let b = c .before .before .before .before .before .before .before .before in
-    let z = take (32 * b .args .n) (zeros signalLimit) in
+    let N = signalCount (b .args .n) in
+    let z = take N (zeros signalLimit) in
     let e = sym (part b) in
-    (start _ (32 * b .args .n) z z z z z (now (b .args .order)) (b .pre .1) (b .pre .0 .0) e e e e e (b .pre .0 .2) (zeros-all signalLimit (32 * b .args .n)), b .pre .0 .1)
+    let bs = searchOf z z z z z (now (b .args .order)) in
+    let sized : Sized N bs = record { marks = e; pos = e; stack = e; heads = e; path = e; order = b .pre .0 .1 } in
+    (b .pre .0 .0, start _ N bs (b .pre .1) (b .pre .0 .0 .0) sized (zeros-all signalLimit N))
 
 same-length : tie.Need-same-length
 same-length c = search needs

@@ -1,20 +1,20 @@
 -- `toposort::scan_all` meets its contract. The invariant is the state of the search; the measure is what it may still do. Assumes nothing.
-use Prim.Native.Nat.{_*_}
 use mathlib.Core.Path.{sym, _∙_}
 use native.Mathlib.Omega.{arith}
-use Rattle.netlist.specs.Table.{gateOf}
-use Rattle.toposort.specs.Components.{Scanning, left}
+use Rattle.netlist.specs.Table.{signalCount, gateOf}
+use Rattle.toposort.specs.Search.{searchOf}
+use Rattle.toposort.specs.Components.{Components, remaining}
 use Rattle.toposort.proofs.Opening.{all-judged}
 use Rattle.toposort.proofs.scan_all.Statement.{statement}
 use Rattle.toposort.proofs.scan_all.Tie as tie
 
 abbrev Inv-loop : tie.InvT-loop
 Inv-loop table n marks₀ pos₀ stack₀ heads₀ path₀ order₀ size p₀ marks pos stack heads path order p =
-    Scanning (gateOf table n) (32 * n) marks pos stack heads path order p
+    Components (gateOf table n) (signalCount n) (searchOf marks pos stack heads path order) p
 
 abbrev μ-loop : tie.MeasureT-loop
 μ-loop table n marks₀ pos₀ stack₀ heads₀ path₀ order₀ size p₀ marks pos stack heads path order p =
-    left (32 * n) marks (p .next) (p .count)
+    remaining (signalCount n) marks p
 
 abbrev begin : tie.Else1 Inv-loop μ-loop → tie.Start Inv-loop μ-loop
 begin c = c .before .before .before .before .before .before .before .before .before .before
@@ -23,10 +23,13 @@ mul-size : tie.Need-mul-size Inv-loop μ-loop
 mul-size c = omega arith
 
 loop-holds : tie.Need-loop-holds Inv-loop μ-loop
-loop-holds c = c .before .before .before .before .before .before .before .pre .0
+loop-holds c = c .before .before .before .before .before .before .before .pre .1
 
 scan-step-requires : tie.Need-scan-step-requires Inv-loop μ-loop
-scan-step-requires c κs = (c .before .before .before .before .before .before .before .before .loop .inv, (c .before .before .before .before .before .before .if1 .taken, c .before .before .before .before .before .before .before .before .before .before .before .before .before .before .before .before .pre .1))
+scan-step-requires c κs =
+    let t = c .before .before .before .before .before .before in
+    let l = t .before .before in
+    (l .loop .inv, (l .before .before .before .before .before .before .before .before .pre .0, t .if1 .taken))
 
 loop-less : tie.Need-loop-less Inv-loop μ-loop
 loop-less c = c .before .before .before .before .before .before .before .before .before .before .before .before .scan-step .ensures .1
@@ -35,22 +38,22 @@ loop-again : tie.Need-loop-again Inv-loop μ-loop
 loop-again c = c .before .before .before .before .before .before .before .before .before .before .before .before .scan-step .ensures .0
 
 same-length : tie.Need-same-length Inv-loop μ-loop
-same-length c = c .before .before .loop .inv .sized ∙ sym (begin c .pre .0 .sized)
+same-length c = c .before .before .loop .inv .sized .marks ∙ sym (begin c .pre .1 .sized .marks)
 
 same-length-2 : tie.Need-same-length-2 Inv-loop μ-loop
-same-length-2 c = c .before .before .loop .inv .pos-sized ∙ sym (begin c .pre .0 .pos-sized)
+same-length-2 c = c .before .before .loop .inv .sized .pos ∙ sym (begin c .pre .1 .sized .pos)
 
 same-length-3 : tie.Need-same-length-3 Inv-loop μ-loop
-same-length-3 c = c .before .before .loop .inv .stack-sized ∙ sym (begin c .pre .0 .stack-sized)
+same-length-3 c = c .before .before .loop .inv .sized .stack ∙ sym (begin c .pre .1 .sized .stack)
 
 same-length-4 : tie.Need-same-length-4 Inv-loop μ-loop
-same-length-4 c = c .before .before .loop .inv .heads-sized ∙ sym (begin c .pre .0 .heads-sized)
+same-length-4 c = c .before .before .loop .inv .sized .heads ∙ sym (begin c .pre .1 .sized .heads)
 
 same-length-5 : tie.Need-same-length-5 Inv-loop μ-loop
-same-length-5 c = c .before .before .loop .inv .path-sized ∙ sym (begin c .pre .0 .path-sized)
+same-length-5 c = c .before .before .loop .inv .sized .path ∙ sym (begin c .pre .1 .sized .path)
 
 same-length-6 : tie.Need-same-length-6 Inv-loop μ-loop
-same-length-6 c = c .before .before .loop .inv .order-sized ∙ sym (begin c .pre .0 .order-sized)
+same-length-6 c = c .before .before .loop .inv .sized .order ∙ sym (begin c .pre .1 .sized .order)
 
 returns : tie.Need-returns Inv-loop μ-loop
 returns c = let i = c .before .before .loop .inv in all-judged i (omega (arith, i .next-le, c .if1 .left))

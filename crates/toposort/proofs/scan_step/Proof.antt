@@ -17,7 +17,7 @@ mul-wide16 : tie.Need-mul-wide16
 mul-wide16 c = let b = begin (c .before) in omega (arith, b .pre .0 .small, b .pre .0 .placed .fits, depth-le (b .pre .0))
 
 slice-read-wide16 : tie.Need-slice-read-wide16
-slice-read-wide16 c = let b = begin (c .before .before) in omega (arith, b .pre .0 .path-sized, b .pre .0 .placed .fits, depth-le (b .pre .0))
+slice-read-wide16 c = let b = begin (c .before .before) in omega (arith, b .pre .0 .sized .path, b .pre .0 .placed .fits, depth-le (b .pre .0))
 
 wide16-requires : tie.Need-wide16-requires
 wide16-requires c κs = search needs
@@ -26,7 +26,7 @@ take-turn-requires : tie.Need-take-turn-requires
 take-turn-requires c κs =
     let a = c .before .before .before .before .before .before in
     let b = begin (a .before .before .before) in
-    (b .pre .0, (b .pre .1 .0, a .before .before .if1 .taken, sym (a .wide16 .ensures), b .pre .1 .1))
+    (b .pre .0, (b .pre .1 .0, b .pre .1 .1, a .before .before .if1 .taken, sym (a .wide16 .ensures)))
 
 same-length : tie.Need-same-length
 same-length c = search needs
@@ -56,7 +56,7 @@ open-signal-requires : tie.Need-open-signal-requires
 open-signal-requires c κs =
     let a = c .before .before .before .before .before .before in
     let b = begin (a .before .before .before) in
-    (b .pre .0, ((b .pre .1 .0, b .pre .1 .0, a .if2 .taken, b .pre .1 .1), above-root (b .pre .0) _ (omega (arith, a .before .before .if1 .left))))
+    (b .pre .0, ((b .pre .1 .0, b .pre .1 .1, b .pre .1 .1, a .if2 .taken), above-root (b .pre .0) _ (omega (arith, a .before .before .if1 .left))))
 
 same-length-7 : tie.Need-same-length-7
 same-length-7 c = search needs
@@ -85,7 +85,7 @@ add-q c = search needs
 returns-3 : tie.Need-returns-3
 returns-3 c =
     let b = begin (c .before .before .before) in
-    pass (b .pre .0) (b .pre .1 .0) (c .if2 .left) (omega (arith, c .before .before .if1 .left))
+    pass (b .pre .0) (b .pre .1 .1) (c .if2 .left) (omega (arith, c .before .before .if1 .left))
 
 pub scan-step-spec : {M : Type 1} → statement M
 scan-step-spec =

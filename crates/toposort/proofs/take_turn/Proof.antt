@@ -1,12 +1,13 @@
 -- `toposort::take_turn` meets its contract: each arm is one move of the search. Assumes nothing.
-use Prim.Native.Nat.{_*_, _<_}
+use Prim.Native.Nat.{_<_}
 use mathlib.Core.Path.{_≡_, refl, subst}
 use mathlib.Core.Logic.{inl}
 use native.Mathlib.Omega.{arith}
-use lib.ListN.{length}
+use lib.ListN.{length, getD}
 use denote.Ref.{now}
 use Rattle.toposort.specs.declared.Turn.{Turn}
-use Rattle.netlist.specs.Table.{signalLimit, gateOf}
+use Rattle.netlist.specs.Table.{signalLimit, signalCount, gateOf}
+use Rattle.toposort.specs.Search.{Search, stackIn}
 use Rattle.toposort.specs.Components.{TopReady, Wants}
 use Rattle.toposort.proofs.Components.{order-room, ready, above-read}
 use Rattle.toposort.proofs.Moves.{raise, meet, merge, leave, close}
@@ -17,9 +18,11 @@ use Rattle.toposort.proofs.take_turn.Tie as tie
 abbrev begin : tie.After-next-turn → tie.Start
 begin c = c .before .before .before .before .before .before .before .before .before .before .before .before
 
-top-ready : (b : tie.Start) → TopReady (32 * b .args .n) (now (b .args .marks)) (now (b .args .pos)) (now (b .args .stack)) (now (b .args .heads))
-    (b .args .p .len) (b .args .p .count) (b .args .top)
-top-ready b = ready (b .pre .0) (b .pre .1 .1) (b .pre .1 .2)
+abbrev buffers : tie.Start → Search
+buffers b = stackIn (b .args .marks) (b .args .pos) (b .args .stack) (b .args .heads)
+
+top-ready : (b : tie.Start) → TopReady (signalCount (b .args .n)) (buffers b) (b .args .p) (b .args .top)
+top-ready b = ready (b .pre .0) (b .pre .1 .2) (b .pre .1 .3)
 
 -- the order has room for the top
 has-room : (b : tie.Start) → b .args .p .done < length (now (b .args .order))
@@ -29,22 +32,29 @@ has-room b = let r = top-ready b in order-room (b .pre .0) (b .args .top) (r .to
 abbrev Wanted : tie.After-next-turn → Turn → Type 0
 Wanted c t =
     let b = begin c in
-    Wants (gateOf (now (b .args .table)) (b .args .n)) (32 * b .args .n) (now (b .args .marks)) (now (b .args .pos)) (now (b .args .stack))
-    (now (b .args .heads)) (b .args .p .len) (b .args .p .count) (b .args .top) t
+    Wants (gateOf (now (b .args .table)) (b .args .n)) (signalCount (b .args .n)) (buffers b) (b .args .p) (b .args .top) t
 
 wanted : (c : tie.After-next-turn) (t : Turn) → c .next-turn .result ≡ t → Wanted c t
 wanted c t e = subst (Wanted c) e (c .next-turn .ensures)
 
 -- the top can be listed
-may-close : (b : tie.Start)
-    → ((b .args .top < length (now (b .args .marks))) × (b .args .top < signalLimit) × (b .args .p .done < length (now (b .args .order))) × (b .args .p .done < signalLimit) × (0 < b .args .p .depth))
+may-close : (b : tie.Start) → let a = b .args in
+    ((a .top < length (now (a .marks))) × (a .p .done < length (now (a .order))))
+    × ((a .top < signalLimit) × (a .p .done < signalLimit) × (0 < a .p .depth))
 may-close b =
     let r = top-ready b in
     let h = has-room b in
-    (omega (arith, r), omega (arith, r), h, omega (arith, r, b .pre .0 .order-sized), b .pre .1 .1)
+    ((omega (arith, r), h), (omega (arith, r), omega (arith, r, b .pre .0 .sized .order), b .pre .1 .2))
+
+-- its mark can rise
+may-raise : (b : tie.Start) → let a = b .args in
+    (a .top < length (now (a .marks))) × (a .top < signalLimit) × (getD (now (a .marks)) (a .top) 0 < 8)
+may-raise b = let r = top-ready b in (omega (arith, r), omega (arith, r), r .top-open .left)
 
 next-turn-requires : tie.Need-next-turn-requires
-next-turn-requires c κs = let b = c .before .before .before .before .before .before .before .before .before .before .before in ((b .pre .0 .bounded, b .pre .1 .3), top-ready b)
+next-turn-requires c κs =
+    let b = c .before .before .before .before .before .before .before .before .before .before .before in
+    ((b .pre .1 .0, b .pre .0 .bounded), top-ready b)
 
 enum-known-at : tie.Need-enum-known-at
 enum-known-at c = search needs
@@ -64,14 +74,8 @@ close-top-requires-2 c κs = may-close (begin (c .before .before .before .before
 enum-told-2 : tie.Need-enum-told-2
 enum-told-2 c = search needs
 
-slice-read-marks : tie.Need-slice-read-marks
-slice-read-marks c = omega (arith, top-ready (begin (c .before .before .before)))
-
-add-marks : tie.Need-add-marks
-add-marks c = omega (arith, top-ready (begin (c .before .before .before)), top-ready (begin (c .before .before .before)) .top-open .left)
-
-slice-write-marks : tie.Need-slice-write-marks
-slice-write-marks c = omega (arith, top-ready (begin (c .before .before .before)))
+raise-top-requires : tie.Need-raise-top-requires
+raise-top-requires c κs = may-raise (begin (c .before .before .before))
 
 enum-known-y : tie.Need-enum-known-y
 enum-known-y c = search needs
@@ -82,7 +86,7 @@ open-signal-requires c κs =
     let a = d .before .before in
     let b = begin a in
     let w = wanted a _ (d .y .given .1) in
-    (b .pre .0, ((b .pre .1 .0, w .0, w .2, b .pre .1 .3), above-read (b .pre .0) (b .pre .1 .1) (b .pre .1 .2) (w .1)))
+    (b .pre .0, ((b .pre .1 .0, b .pre .1 .1, w .0, w .2), above-read (b .pre .0) (b .pre .1 .2) (b .pre .1 .3) (w .1)))
 
 enum-told-3 : tie.Need-enum-told-3
 enum-told-3 c = search needs
@@ -93,17 +97,11 @@ sub-q c = omega (arith, top-ready (begin (c .before .before)))
 enum-told-4 : tie.Need-enum-told-4
 enum-told-4 c = search needs
 
-slice-read-marks-2 : tie.Need-slice-read-marks-2
-slice-read-marks-2 c = omega (arith, top-ready (begin (c .before .before .before)))
-
-add-marks-2 : tie.Need-add-marks-2
-add-marks-2 c = omega (arith, top-ready (begin (c .before .before .before)), top-ready (begin (c .before .before .before)) .top-open .left)
-
-slice-write-marks-2 : tie.Need-slice-write-marks-2
-slice-write-marks-2 c = omega (arith, top-ready (begin (c .before .before .before)))
-
 smaller-requires : tie.Need-smaller-requires
 smaller-requires c κs = search needs
+
+raise-top-requires-2 : tie.Need-raise-top-requires-2
+raise-top-requires-2 c κs = may-raise (begin (c .before .before .before .before))
 
 same-length : tie.Need-same-length
 same-length c = search needs
@@ -128,7 +126,7 @@ returns c =
     let b = begin a in
     let w = wanted a _ (d .at .given .1) in
     let e = k .close-top .ensures in
-    rw (e .0 .0, e .0 .1, e .1) (close (b .pre .0) (b .pre .1 .1) (b .pre .1 .2) _ (b .pre .1 .0) (w .0) (w .1) (w .2))
+    rw (e .0 .0, e .0 .1, e .1) (close (b .pre .0) (b .pre .1 .2) (b .pre .1 .3) _ (b .pre .1 .1) (w .0) (w .1) (w .2))
 
 same-length-6 : tie.Need-same-length-6
 same-length-6 c = search needs
@@ -153,7 +151,7 @@ returns-2 c =
     let b = begin a in
     let w = wanted a _ (d .enum-told .given .1) in
     let e = k .close-top2 .ensures in
-    rw (e .0 .0, e .0 .1, e .1) (leave (b .pre .0) (b .pre .1 .1) (b .pre .1 .2) (b .pre .1 .0) (w .0) (w .1))
+    rw (e .0 .0, e .0 .1, e .1) (leave (b .pre .0) (b .pre .1 .2) (b .pre .1 .3) (b .pre .1 .1) (w .0) (w .1))
 
 same-length-11 : tie.Need-same-length-11
 same-length-11 c = search needs
@@ -169,11 +167,13 @@ same-length-14 c = search needs
 
 returns-3 : tie.Need-returns-3
 returns-3 c =
-    let d = c .before in
+    let k = c .before .before in
+    let d = k .before .before in
     let a = d .before .before in
     let b = begin a in
     let w = wanted a _ (d .enum-told2 .given .1) in
-    raise (b .pre .0) (b .pre .1 .1) (b .pre .1 .2) _ _ (b .pre .1 .0) refl (w .0) (omega arith) (b .pre .0 .best-loop) (λ i y e r. inl (w .1 i y e r))
+    let e = k .raise-top .ensures in
+    rw (e .0, e .1) (raise (b .pre .0) (b .pre .1 .2) (b .pre .1 .3) _ _ (b .pre .1 .1) refl (w .0) (omega arith) (b .pre .0 .best-loop) (λ i y e r. inl (w .1 i y e r)))
 
 same-length-15 : tie.Need-same-length-15
 same-length-15 c = search needs
@@ -213,7 +213,7 @@ returns-5 c =
     let a = c .before .before in
     let b = begin a in
     let w = wanted a _ (c .enum-told3 .given .1) in
-    merge (b .pre .0) (b .pre .1 .1) (b .pre .1 .2) _ (w .0) (w .1) (w .2)
+    merge (b .pre .0) (b .pre .1 .2) (b .pre .1 .3) _ (w .0) (w .1) (w .2)
 
 same-length-25 : tie.Need-same-length-25
 same-length-25 c = search needs
@@ -229,12 +229,14 @@ same-length-28 c = search needs
 
 returns-6 : tie.Need-returns-6
 returns-6 c =
-    let d = c .before .before in
+    let k = c .before .before in
+    let d = k .before .before .before in
     let a = d .before .before in
     let b = begin a in
     let w = wanted a _ (d .enum-told4 .given .1) in
-    let m = c .smaller .ensures in
-    meet (b .pre .0) (b .pre .1 .1) (b .pre .1 .2) _ _ _ (b .pre .1 .0) refl (w .3) (m .1) (m .0) (m .2) (w .0) (w .4) (w .1) (w .2)
+    let m = k .before .smaller .ensures in
+    let e = k .raise-top2 .ensures in
+    rw (e .0, e .1) (meet (b .pre .0) (b .pre .1 .2) (b .pre .1 .3) _ _ _ (b .pre .1 .1) refl (w .3) (m .1) (m .0) (m .2) (w .0) (w .4) (w .1) (w .2))
 
 pub take-turn-spec : {M : Type 1} → statement M
 take-turn-spec =
@@ -247,18 +249,14 @@ take-turn-spec =
     enum-told
     close-top-requires-2
     enum-told-2
-    slice-read-marks
-    add-marks
-    slice-write-marks
+    raise-top-requires
     enum-known-y
     open-signal-requires
     enum-told-3
     sub-q
     enum-told-4
-    slice-read-marks-2
-    add-marks-2
-    slice-write-marks-2
     smaller-requires
+    raise-top-requires-2
     same-length
     same-length-2
     same-length-3
