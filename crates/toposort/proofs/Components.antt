@@ -13,7 +13,7 @@ use Rattle.netlist.specs.Graph.Depends.{direct, through}
 use Rattle.netlist.specs.Settle.{readsIn}
 use Rattle.toposort.specs.declared.Scan.{Scan}
 use Rattle.toposort.specs.Search.{Search, searchOf, withBest, cutTo}
-use Rattle.toposort.specs.Components.{Open, On, Closed, Within, Passed, TopReady, Reaches, Above, Listed, Components, Scanned}
+use Rattle.toposort.specs.Components.{Open, IsTop, On, Closed, Within, Passed, TopReady, Reaches, Above, Listed, Components, Moved}
 use Rattle.netlist.proofs.Order.{depends-more, depends-trans}
 use Rattle.netlist.proofs.Loops.{before-set}
 use Rattle.toposort.proofs.Reading.{place-of}
@@ -196,12 +196,12 @@ module _ {g : ℕ → Gate} {N : ℕ} {b : Search} {p : Scan} (s : Components g 
       (λ l. omega (arith, s .headed .low (count - 1) (omega arith), s .headed .inside (count - 1) (omega arith)))
       (λ l. omega arith)
 
-  module _ {top : ℕ} (some : 0 < depth) (last : getD path (depth - 1) 0 ≡ top) where
+  module _ {top : ℕ} (t : IsTop path p top) where
     pub top-on : On b p top
-    top-on = rw last at (s .pathed .on (depth - 1) (omega arith))
+    top-on = rw (t .1) at (s .pathed .on (depth - 1) (omega arith))
 
     pub top-open : Open marks top
-    top-open = rw last at (s .pathed .opened (depth - 1) (omega arith))
+    top-open = rw (t .1) at (s .pathed .opened (depth - 1) (omega arith))
 
     pub top-below : top < N
     top-below = seen-below top (top-open .seen)
@@ -209,10 +209,10 @@ module _ {g : ℕ → Gate} {N : ℕ} {b : Search} {p : Scan} (s : Components g 
     pub path-le : (x : ℕ) → Before path depth x → getD pos x 0 ≤ getD pos top 0
     path-le x b =
         same-or-not (b .0) (depth - 1)
-        (λ e. let h : x ≡ top = sym (b .2) ∙ ap (λ i. getD path i 0) e ∙ last in rw h (omega arith))
+        (λ e. let h : x ≡ top = sym (b .2) ∙ ap (λ i. getD path i 0) e ∙ t .1 in rw h (omega arith))
         (λ d.
         let h = s .pathed .sorted (b .0) (depth - 1) (omega (arith, b .1)) (omega arith) in
-        let g : getD pos x 0 < getD pos top 0 = rw (b .2, last) at h in
+        let g : getD pos x 0 < getD pos top 0 = rw (b .2, t .1) at h in
         omega arith)
 
     pub heads-le : (k : ℕ) → k < count → getD heads k 0 ≤ getD pos top 0
@@ -245,5 +245,5 @@ module _ {g : ℕ → Gate} {N : ℕ} {b : Search} {p : Scan} (s : Components g 
         }
 
     -- every signal on the stack depends on what the top reads
-    pub above-read : {y : ℕ} → Reads (readsIn g) top y → Above g b p y
+    pub above-read : {y : ℕ} → Reads (readsIn g) top y → Above g stack p y
     above-read r i l = reaches-read g (reach-top (stack-on i l)) r

@@ -11,7 +11,7 @@ use Rattle.netlist.specs.Settle.{readsIn}
 use Rattle.toposort.specs.Reading.{readAt}
 use Rattle.toposort.specs.declared.Scan.{Scan}
 use Rattle.toposort.specs.Search.{Search, withBest, cutTo}
-use Rattle.toposort.specs.Components.{Open, On, Closed, Within, Passed, Reaches, Components, Scanned}
+use Rattle.toposort.specs.Components.{Open, IsTop, On, Closed, Within, Passed, Reaches, Components, Moved}
 use Rattle.toposort.proofs.Tally.{same-or-not, stored, tally-keep, room-less}
 use Rattle.toposort.proofs.Components.{below-or-not, marked, finished, merged, reaches-read, depends-reaches, listed-keep, listed-add}
 use Rattle.toposort.proofs.Components.{on-or-not, same-place, closed-up, closed-down, inside, stack-on, on-seen, reach-on}
@@ -22,11 +22,11 @@ module _ {g : ℕ → Gate} {N : ℕ} {b : Search} {p : Scan} (s : Components g 
   open Search b using (marks, pos, stack, heads, path, order)
   open Scan p using (next, depth, len, count, done, best)
 
-  module _ {top : ℕ} (some : 0 < depth) (last : getD path (depth - 1) 0 ≡ top) where
+  module _ {top : ℕ} (t : IsTop path p top) where
     -- the top's read at place m - 1 is done
     pub raise : (m best′ : ℕ) → next < N → getD marks top 0 ≡ m → (m ≡ 7 → ⊥) → best′ ≤ best → (best′ < N → Loop (readsIn g) best′)
         → ((i y : ℕ) → suc i ≡ m → readAt g top i ≡ Signal y → Passed b (withBest p best′) top y)
-        → Scanned g N marks p (marked b top (m + 1)) (withBest p best′)
+        → Moved g N marks p (marked b top (m + 1)) (withBest p best′)
     raise m best′ l e d less-or-same bl new = (
       record {
         bounded = s .bounded;
@@ -76,10 +76,10 @@ module _ {g : ℕ → Gate} {N : ℕ} {b : Search} {p : Scan} (s : Components g 
     )
       where
         h : top < length marks
-        h = inside s top (top-below s some last)
+        h = inside s top (top-below s t)
 
         o : Open marks top
-        o = top-open s some last
+        o = top-open s t
 
         down : {z : ℕ} → Closed (marked b top (m + 1)) p z → Closed b p z
         down c = closed-down s top (m + 1) h (o .seen) c
@@ -96,10 +96,10 @@ module _ {g : ℕ → Gate} {N : ℕ} {b : Search} {p : Scan} (s : Components g 
     pub meet : (m y best′ : ℕ) → next < N → getD marks top 0 ≡ m → (m ≡ 7 → ⊥) → best′ ≤ best → best′ ≤ top → (best′ ≡ best) ⊎ (best′ ≡ top)
         → Reads (readsIn g) top y → ((i z : ℕ) → suc i ≡ m → readAt g top i ≡ Signal z → z ≡ y)
         → On b p y → getD heads (count - 1) 0 ≤ getD pos y 0
-        → Scanned g N marks p (marked b top (m + 1)) (withBest p best′)
+        → Moved g N marks p (marked b top (m + 1)) (withBest p best′)
     meet m y best′ l e d low low′ which r only o w =
         raise m best′ l e d low
-        (λ k. ⊎-elim (λ p. rw p (s .best-loop (omega arith))) (λ p. rw p (top-loop s some last y r o)) which)
+        (λ k. ⊎-elim (λ p. rw p (s .best-loop (omega arith))) (λ p. rw p (top-loop s t y r o)) which)
         (λ i z g q. let p = only i z g q in rw p (inr (record { on = o; least = low′; within = λ k h _. in-last k h })))
       where
         in-last : (k : ℕ) → k < count → getD heads k 0 ≤ getD pos y 0
@@ -110,7 +110,7 @@ module _ {g : ℕ → Gate} {N : ℕ} {b : Search} {p : Scan} (s : Components g 
 
     -- the top reads a signal of an earlier component: the last two components are one
     pub merge : (y : ℕ) → Reads (readsIn g) top y → On b p y → getD pos y 0 < getD heads (count - 1) 0
-        → Scanned g N marks p b (merged p)
+        → Moved g N marks p b (merged p)
     merge y r o below = (
       record {
         bounded = s .bounded;
@@ -132,7 +132,7 @@ module _ {g : ℕ → Gate} {N : ℕ} {b : Search} {p : Scan} (s : Components g 
         pathed = s .pathed;
         reach = λ i j l m w. below-or-not i (getD heads (count - 1) 0)
             (λ k. s .reach i j l m (λ a b c. same-or-not a (count - 1) (λ p. absurd (omega (arith, rw p at c))) (λ p. w a (omega arith) c)))
-            (λ k. inr (depends-reaches g (reaches-read g (reach-top s some last (stack-on s i l)) r) (back i j m k w)));
+            (λ k. inr (depends-reaches g (reaches-read g (reach-top s t (stack-on s i l)) r) (back i j m k w)));
         looked = λ x i z p l b q. fewer (s .looked x i z p l b q);
         closed = s .closed;
         judged = s .judged;
@@ -140,13 +140,13 @@ module _ {g : ℕ → Gate} {N : ℕ} {b : Search} {p : Scan} (s : Components g 
         best-loop = s .best-loop;
         listed = s .listed;
       },
-      omega (arith, count-some s some last),
+      omega (arith, count-some s t),
     )
       where
         two : 0 < count - 1
         two = same-or-not count 1
-            (λ p. let z : getD heads (count - 1) 0 ≡ 0 = rw p (s .headed .bottom (count-some s some last)) in absurd (omega arith))
-            (λ p. omega (arith, count-some s some last))
+            (λ p. let z : getD heads (count - 1) 0 ≡ 0 = rw p (s .headed .bottom (count-some s t)) in absurd (omega arith))
+            (λ p. omega (arith, count-some s t))
 
         fewer : {x z : ℕ} → Passed b p x z → Passed b (merged p) x z
         fewer (inl c) = inl c
@@ -164,7 +164,7 @@ module _ {g : ℕ → Gate} {N : ℕ} {b : Search} {p : Scan} (s : Components g 
         → (0 < len′ → 0 < count′)
         → ((i k : ℕ) → i < len′ → k < count → getD heads k 0 ≤ i → k < count′)
         → ((i j : ℕ) → i < len → len′ ≤ i → Within b p i j → len′ ≤ j)
-        → Scanned g N marks p (finished b p top) (cutTo p len′ count′)
+        → Moved g N marks p (finished b p top) (cutTo p len′ count′)
     retire len′ count′ l e len-le top-le fewer keeps some′ only cut = (
       record {
         bounded = s .bounded;
@@ -217,30 +217,30 @@ module _ {g : ℕ → Gate} {N : ℕ} {b : Search} {p : Scan} (s : Components g 
         judged = λ x c d. was c (λ c′. s .judged x c′ d) (λ o k. judged-on s x o (past o k) d);
         best-le = s .best-le;
         best-loop = s .best-loop;
-        listed = listed-add g N b p top h (λ w. omega arith) (order-room s top (top-below s some last) (λ w. omega arith)) top-after len′ count′ (s .listed);
+        listed = listed-add g N b p top h (λ w. omega arith) (order-room s top (top-below s t) (λ w. omega arith)) top-after len′ count′ (s .listed);
       },
       omega (arith, room-less marks top 8 h (omega arith) (omega arith)),
     )
       where
         h : top < length marks
-        h = inside s top (top-below s some last)
+        h = inside s top (top-below s t)
 
         -- as long as no loop is known, what the top reads is done
         top-after : best ≡ N → (y : ℕ) → Reads (readsIn g) top y → getD marks y 0 ≡ 8
         top-after g y r =
-            ⊎-elim (closed-done s y) (λ w. absurd (omega (arith, w .least, top-below s some last)))
-            (passed-read s top y (top-on s some last) (omega arith) r)
+            ⊎-elim (closed-done s y) (λ w. absurd (omega (arith, w .least, top-below s t)))
+            (passed-read s top y (top-on s t) (omega arith) r)
 
         -- the path below the top
         shorter : (x : ℕ) → Before path depth x → (x ≡ top → ⊥) → Before path (depth - 1) x
         shorter x b d = (
           b .0,
-          same-or-not (b .0) (depth - 1) (λ p. absurd (d (sym (b .2) ∙ ap (λ i. getD path i 0) p ∙ last))) (λ p. omega (arith, b .1)),
+          same-or-not (b .0) (depth - 1) (λ p. absurd (d (sym (b .2) ∙ ap (λ i. getD path i 0) p ∙ t .1))) (λ p. omega (arith, b .1)),
           b .2,
         )
 
         under : (i : ℕ) → i < depth - 1 → getD pos (getD path i 0) 0 < getD pos top 0
-        under i k = rw last at (s .pathed .sorted i (depth - 1) k (omega arith))
+        under i k = rw (t .1) at (s .pathed .sorted i (depth - 1) k (omega arith))
 
         more : {x : ℕ} → On b (cutTo p len′ count′) x → On b p x
         more o = record { below = omega (arith, o .below); holds = o .holds }
@@ -268,8 +268,8 @@ module _ {g : ℕ → Gate} {N : ℕ} {b : Search} {p : Scan} (s : Components g 
         past {x} o k =
             below-or-not 6 (getD marks x 0) (λ m. m)
             (λ m.
-            let b = path-le s some last x (s .pathed .named x (record { seen = on-seen s o; left = omega arith })) in
-            let p : x ≡ top = same-place s o (top-on s some last) (omega arith) in
+            let b = path-le s t x (s .pathed .named x (record { seen = on-seen s o; left = omega arith })) in
+            let p : x ≡ top = same-place s o (top-on s t) (omega arith) in
             rw p (omega arith))
 
         kept : {x y : ℕ} → On b (cutTo p len′ count′) x → Passed b p x y
@@ -282,14 +282,14 @@ module _ {g : ℕ → Gate} {N : ℕ} {b : Search} {p : Scan} (s : Components g 
 
     -- the top is done, and its component goes on
     pub leave : next < N → getD marks top 0 ≡ 7 → (getD pos top 0 ≡ getD heads (count - 1) 0 → ⊥)
-        → Scanned g N marks p (finished b p top) (cutTo p len count)
+        → Moved g N marks p (finished b p top) (cutTo p len count)
     leave l e d =
-        retire len count l e (omega arith) (omega (arith, top-on s some last .below)) (omega arith)
+        retire len count l e (omega arith) (omega (arith, top-on s t .below)) (omega arith)
         (λ k m. (
           s .headed .inside k m,
           λ p. same-or-not k (count - 1)
               (λ q. d (sym p ∙ ap (λ i. getD heads i 0) q))
-              (λ q. omega (arith, s .headed .sorted k (count - 1) (omega arith) (omega arith), heads-le s some last (count - 1) (omega arith))),
+              (λ q. omega (arith, s .headed .sorted k (count - 1) (omega arith) (omega arith), heads-le s t (count - 1) (omega arith))),
         ))
         (s .headed .some)
         (λ i k _ m _. m)
@@ -297,12 +297,12 @@ module _ {g : ℕ → Gate} {N : ℕ} {b : Search} {p : Scan} (s : Components g 
 
     -- the top is done, and so is its component, which begins at the top
     pub close : (at : ℕ) → next < N → getD marks top 0 ≡ 7 → at ≡ getD pos top 0 → getD pos top 0 ≡ getD heads (count - 1) 0
-        → Scanned g N marks p (finished b p top) (cutTo p at (count - 1))
+        → Moved g N marks p (finished b p top) (cutTo p at (count - 1))
     close at l e a d =
-        retire at (count - 1) l e (omega (arith, top-on s some last .below)) (omega arith) (omega arith)
+        retire at (count - 1) l e (omega (arith, top-on s t .below)) (omega arith) (omega arith)
         (λ k m. let q = s .headed .sorted k (count - 1) m (omega arith) in (omega arith, λ p. omega arith))
         (λ k. same-or-not count 1
-        (λ p. let z : getD heads (count - 1) 0 ≡ 0 = rw p (s .headed .bottom (count-some s some last)) in absurd (omega arith))
-        (λ p. omega (arith, count-some s some last)))
+        (λ p. let z : getD heads (count - 1) 0 ≡ 0 = rw p (s .headed .bottom (count-some s t)) in absurd (omega arith))
+        (λ p. omega (arith, count-some s t)))
         (λ i k h b c. same-or-not k (count - 1) (λ p. absurd (omega (arith, rw p at c))) (λ p. omega arith))
-        (λ i j h b w. omega (arith, w (count - 1) (omega (arith, count-some s some last)) (omega arith)))
+        (λ i j h b w. omega (arith, w (count - 1) (omega (arith, count-some s t)) (omega arith)))

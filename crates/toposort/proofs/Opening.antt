@@ -12,8 +12,8 @@ use Rattle.netlist.specs.Table.{signalLimit}
 use Rattle.toposort.specs.declared.Read.the-variants.{Signal}
 use Rattle.toposort.specs.Reading.{readAt}
 use Rattle.toposort.specs.declared.Scan.{Scan}
-use Rattle.toposort.specs.Search.{Search, scanFrom}
-use Rattle.toposort.specs.Components.{Open, Sized, On, Closed, Passed, Above, Components, Scanned, Least}
+use Rattle.toposort.specs.Search.{Search}
+use Rattle.toposort.specs.Components.{Open, Fresh, On, Closed, Passed, Above, Components, Moved, Least}
 use Rattle.toposort.proofs.Tally.{same-or-not, stored, in-list, tally-less, tally-le, tally-all, tally-none, room-less}
 use Rattle.toposort.proofs.Components.{below-or-not, opened, oneMore, passed, listed-keep, inside, stack-on, on-seen}
 use Rattle.toposort.proofs.Components.{closed-done, empty, depth-le, count-le}
@@ -26,8 +26,8 @@ module _ {g : ℕ → Gate} {N : ℕ} {b : Search} {p : Scan} (s : Components g 
     pub len-lt : len < N
     len-lt = omega (arith, s .placed .fits, tally-less 0 marks y 1 (inside s y h) new (λ p. omega arith))
 
-    pub push : (m : ℕ) → 0 < m → m < 8 → ((i z : ℕ) → suc i < m → readAt g y i ≡ Signal z → ⊥) → next < N → Above g b p y
-        → Scanned g N marks p (opened b p y m) (oneMore p)
+    pub push : (m : ℕ) → 0 < m → m < 8 → ((i z : ℕ) → suc i < m → readAt g y i ≡ Signal z → ⊥) → next < N → Above g stack p y
+        → Moved g N marks p (opened b p y m) (oneMore p)
     push m some few none l into = (
       record {
         bounded = s .bounded;
@@ -194,11 +194,11 @@ module _ {g : ℕ → Gate} {N : ℕ} {b : Search} {p : Scan} (s : Components g 
             })
 
   -- nothing is open
-  pub above-root : (y : ℕ) → depth ≡ 0 → Above g b p y
+  pub above-root : (y : ℕ) → depth ≡ 0 → Above g stack p y
   above-root y e i l = absurd (omega (arith, empty s e))
 
   -- a root that is seen is passed
-  pub pass : next < N → (getD marks next 0 ≡ 0 → ⊥) → depth ≡ 0 → Scanned g N marks p b (passed p)
+  pub pass : next < N → (getD marks next 0 ≡ 0 → ⊥) → depth ≡ 0 → Moved g N marks p b (passed p)
   pass l d e = (
     record {
       bounded = s .bounded;
@@ -246,9 +246,9 @@ module _ {g : ℕ → Gate} {N : ℕ} {b : Search} {p : Scan} (s : Components g 
       full = s .listed .counted ∙ tally-all 8 marks (λ x l. closed-done s x (shut x (omega (arith, s .sized .marks)))) ∙ s .sized .marks
 
 -- the state at the start
-pub start : (g : ℕ → Gate) (N : ℕ) (b : Search) → WellFormed (readsIn g) N → N ≤ signalLimit → Sized N b
-    → ((x : ℕ) → getD (b .marks) x 0 ≡ 0) → Components g N b (scanFrom N)
-start g N b bounded small sized unseen =
+pub start : (g : ℕ → Gate) (N : ℕ) (b : Search) → WellFormed (readsIn g) N → N ≤ signalLimit → Fresh N b
+    → Components g N b (record { next = 0; depth = 0; len = 0; count = 0; done = 0; best = N })
+start g N b bounded small (sized, unseen) =
     record {
       bounded = bounded;
       small = small;

@@ -33,9 +33,17 @@ Sized N b =
       order : length (b .order) ≡ N;
     }
 
+-- and none of them is seen
+abbrev pub Fresh : ℕ → Search → Type 0
+Fresh N b = Sized N b × ((x : ℕ) → getD (b .marks) x 0 ≡ 0)
+
+-- top is the last open signal
+abbrev pub IsTop : List ℕ → Scan → ℕ → Type 0
+IsTop path p top = (0 < p .depth) × (getD path (p .depth - 1) 0 ≡ top)
+
 module _ (b : Search) (p : Scan) where
-  open Search b using (marks, pos, stack, heads, path, order)
-  open Scan p using (next, depth, len, count, done, best)
+  open Search b using (marks, pos, stack, heads, path)
+  open Scan p using (depth, len, count, best)
 
   -- x is on the stack
   abbrev pub On : ℕ → Type 0
@@ -114,8 +122,8 @@ abbrev pub Reaches : (ℕ → Gate) → ℕ → ℕ → Type 0
 Reaches g x y = (x ≡ y) ⊎ Depends (readsIn g) x y
 
 -- every signal on the stack depends on y
-abbrev pub Above : (ℕ → Gate) → Search → Scan → ℕ → Type 0
-Above g b p y = (i : ℕ) → i < p .len → Depends (readsIn g) (getD (b .stack) i 0) y
+abbrev pub Above : (ℕ → Gate) → List ℕ → Scan → ℕ → Type 0
+Above g stack p y = (i : ℕ) → i < p .len → Depends (readsIn g) (getD stack i 0) y
 
 module _ (g : ℕ → Gate) (N : ℕ) (b : Search) (p : Scan) where
   open Search b using (marks, pos, stack, heads, order)
@@ -171,9 +179,9 @@ abbrev pub remaining : ℕ → List ℕ → Scan → ℕ
 remaining N marks p = 2 * room marks + p .count + (N - p .next)
 
 module _ (g : ℕ → Gate) (N : ℕ) where
-  -- what a step from the marks old and the place p leaves
-  abbrev pub Scanned : List ℕ → Scan → Search → Scan → Type 0
-  Scanned old p b q = Components g N b q × (remaining N (b .marks) q < remaining N old p)
+  -- what a step from the marks old and from p leaves
+  abbrev pub Moved : List ℕ → Scan → Search → Scan → Type 0
+  Moved old p b q = Components g N b q × (remaining N (b .marks) q < remaining N old p)
 
   -- best is the smallest signal below N that is on a loop, or N, and then the order is topological
   pub record Least (order : List ℕ) (best : ℕ) : Type 0 where

@@ -1,6 +1,6 @@
--- The buffers of the search, one entry a signal. A mark is as in `Tally`. Signals are put on `stack` as they are opened, at the place `pos` says;
--- a component that is closed is cut off the end of the stack. `heads` has the places of the stack where its components begin, as far as they
--- are known, `path` has the open signals, and `order` the done ones.
+-- The buffers of the search, with an entry a signal. A mark is as in `Tally`. Signals are put on `stack` as they are opened, at the place
+-- `pos` says; a component that is closed is cut off the end of the stack. `heads` has the places of the stack where its components begin,
+-- as far as they are known, `path` has the open signals, and `order` the done ones.
 use mathlib.Core.List.{List, []}
 use Prim.Native.Nat.{ℕ, _+_, _-_}
 use Rattle.lent.specs.Lent.{Held, Lent, was, left}
@@ -22,8 +22,8 @@ searchOf marks pos stack heads path order =
 abbrev pub searchIn : Held → Held → Held → Held → Held → Held → Search
 searchIn marks pos stack heads path order = searchOf (marks .now) (pos .now) (stack .now) (heads .now) (path .now) (order .now)
 
-abbrev pub searchLeft : Lent → Lent → Lent → Lent → Lent → Lent → Search
-searchLeft marks pos stack heads path order = searchOf (left marks) (left pos) (left stack) (left heads) (left path) (left order)
+abbrev pub searchOut : Lent → Lent → Lent → Lent → Lent → Lent → Search
+searchOut marks pos stack heads path order = searchOf (left marks) (left pos) (left stack) (left heads) (left path) (left order)
 
 -- the same of a function that holds no path and no order, and leaves what it holds as it was
 abbrev pub stackIn : Held → Held → Held → Held → Search
@@ -31,10 +31,6 @@ stackIn marks pos stack heads = searchOf (marks .now) (pos .now) (stack .now) (h
 
 abbrev pub stackWas : Lent → Lent → Lent → Lent → Search
 stackWas marks pos stack heads = searchOf (was marks) (was pos) (was stack) (was heads) [] []
-
--- where the search starts, over N signals
-abbrev pub scanFrom : ℕ → Scan
-scanFrom N = record { next = 0; depth = 0; len = 0; count = 0; done = 0; best = N }
 
 -- a search that goes on with another smallest signal known to be on a loop
 abbrev pub withBest : Scan → ℕ → Scan

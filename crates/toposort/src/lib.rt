@@ -9,8 +9,8 @@ ghost use Rattle.netlist.specs.Settle.{readsIn};
 ghost use Rattle.netlist.specs.Table.{signalLimit, rowLength, signalCount, IsTable, sourceOf, gateOf};
 ghost use Rattle.toposort.specs.Reading.{asRead, readAt, placeCount, firstMark};
 ghost use Rattle.toposort.specs.Answer.{OrderOrLoop};
-ghost use Rattle.toposort.specs.Search.{searchIn, searchLeft, stackIn, stackWas, scanFrom, withBest, cutTo};
-ghost use Rattle.toposort.specs.Components.{TopReady, Above, Components, Wants, Scanned, Least};
+ghost use Rattle.toposort.specs.Search.{searchIn, searchOut, stackIn, stackWas, withBest, cutTo};
+ghost use Rattle.toposort.specs.Components.{Fresh, IsTop, TopReady, Above, Components, Wants, Moved, Least};
 use netlist::ROW;
 use netlist::SIGNAL_LIMIT;
 use netlist::SLICE_SIGNALS;
@@ -178,8 +178,8 @@ fn open_signal(
 ) -> Scan
     requires { ⌜ Components (gateOf (now table) n) (signalCount n) (searchIn marks pos stack heads path order) p ⌝ }
     requires { ⌜ IsTable n (now table) × (p .next < signalCount n) × (y < signalCount n) × (getD (now marks) y 0 ≡ 0) ⌝ }
-    requires { ⌜ Above (gateOf (now table) n) (searchIn marks pos stack heads path order) p y ⌝ }
-    ensures { λ r. ⌜ Scanned (gateOf (was table) n) (signalCount n) (was marks) p (searchLeft marks pos stack heads path order) r ⌝ }
+    requires { ⌜ Above (gateOf (now table) n) (now stack) p y ⌝ }
+    ensures { λ r. ⌜ Moved (gateOf (was table) n) (signalCount n) (was marks) p (searchOut marks pos stack heads path order) r ⌝ }
 {
     let len = p.len;
     let count = p.count;
@@ -257,8 +257,8 @@ fn take_turn(
     top: usize,
 ) -> Scan
     requires { ⌜ Components (gateOf (now table) n) (signalCount n) (searchIn marks pos stack heads path order) p ⌝ }
-    requires { ⌜ IsTable n (now table) × (p .next < signalCount n) × (0 < p .depth) × (getD (now path) (p .depth - 1) 0 ≡ top) ⌝ }
-    ensures { λ r. ⌜ Scanned (gateOf (was table) n) (signalCount n) (was marks) p (searchLeft marks pos stack heads path order) r ⌝ }
+    requires { ⌜ IsTable n (now table) × (p .next < signalCount n) × IsTop (now path) p top ⌝ }
+    ensures { λ r. ⌜ Moved (gateOf (was table) n) (signalCount n) (was marks) p (searchOut marks pos stack heads path order) r ⌝ }
 {
     let len = p.len;
     let count = p.count;
@@ -291,7 +291,7 @@ fn scan_step(
 ) -> Scan
     requires { ⌜ Components (gateOf (now table) n) (signalCount n) (searchIn marks pos stack heads path order) p ⌝ }
     requires { ⌜ IsTable n (now table) × (p .next < signalCount n) ⌝ }
-    ensures { λ r. ⌜ Scanned (gateOf (was table) n) (signalCount n) (was marks) p (searchLeft marks pos stack heads path order) r ⌝ }
+    ensures { λ r. ⌜ Moved (gateOf (was table) n) (signalCount n) (was marks) p (searchOut marks pos stack heads path order) r ⌝ }
 {
     let next = p.next;
     let depth = p.depth;
@@ -319,8 +319,8 @@ fn scan_all(
     path: &mut [u16],
     order: &mut [u16],
 ) -> usize
-    requires { ⌜ IsTable n (now table) ⌝ }
-    requires { ⌜ Components (gateOf (now table) n) (signalCount n) (searchIn marks pos stack heads path order) (scanFrom (signalCount n)) ⌝ }
+    requires { ⌜ IsTable n (now table) × WellFormed (readsIn (gateOf (now table) n)) (signalCount n) ⌝ }
+    requires { ⌜ Fresh (signalCount n) (searchIn marks pos stack heads path order) ⌝ }
     ensures { λ r. ⌜ Least (gateOf (was table) n) (signalCount n) (left order) r ⌝ }
 {
     let size = SLICE_SIGNALS * n;

@@ -7,7 +7,6 @@ use Rattle.netlist.specs.Table.{signalLimit, signalCount}
 use Rattle.toposort.specs.Search.{searchOf}
 use Rattle.toposort.specs.Components.{Sized}
 use Rattle.toposort.proofs.Tally.{zeros, zeros-length, zeros-all}
-use Rattle.toposort.proofs.Opening.{start}
 use borrow.Author.Needs.{needs}
 use Rattle.toposort.proofs.order_or_loop.Statement.{statement}
 use Rattle.toposort.proofs.order_or_loop.Tie as tie
@@ -56,7 +55,7 @@ scan-all-requires c κs =
     let e = sym (part b) in
     let bs = searchOf z z z z z (now (b .args .order)) in
     let sized : Sized N bs = record { marks = e; pos = e; stack = e; heads = e; path = e; order = b .pre .0 .1 } in
-    (b .pre .0 .0, start _ N bs (b .pre .1) (b .pre .0 .0 .0) sized (zeros-all signalLimit N))
+    ((b .pre .0 .0, b .pre .1), (sized, zeros-all signalLimit N))
 
 same-length : tie.Need-same-length
 same-length c = search needs

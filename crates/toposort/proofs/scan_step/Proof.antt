@@ -26,7 +26,7 @@ take-turn-requires : tie.Need-take-turn-requires
 take-turn-requires c κs =
     let a = c .before .before .before .before .before .before in
     let b = begin (a .before .before .before) in
-    (b .pre .0, (b .pre .1 .0, b .pre .1 .1, a .before .before .if1 .taken, sym (a .wide16 .ensures)))
+    (b .pre .0, (b .pre .1 .0, b .pre .1 .1, (a .before .before .if1 .taken, sym (a .wide16 .ensures))))
 
 same-length : tie.Need-same-length
 same-length c = search needs

@@ -22,7 +22,7 @@ abbrev buffers : tie.Start → Search
 buffers b = stackIn (b .args .marks) (b .args .pos) (b .args .stack) (b .args .heads)
 
 top-ready : (b : tie.Start) → TopReady (signalCount (b .args .n)) (buffers b) (b .args .p) (b .args .top)
-top-ready b = ready (b .pre .0) (b .pre .1 .2) (b .pre .1 .3)
+top-ready b = ready (b .pre .0) (b .pre .1 .2)
 
 -- the order has room for the top
 has-room : (b : tie.Start) → b .args .p .done < length (now (b .args .order))
@@ -44,7 +44,7 @@ may-close : (b : tie.Start) → let a = b .args in
 may-close b =
     let r = top-ready b in
     let h = has-room b in
-    ((omega (arith, r), h), (omega (arith, r), omega (arith, r, b .pre .0 .sized .order), b .pre .1 .2))
+    ((omega (arith, r), h), (omega (arith, r), omega (arith, r, b .pre .0 .sized .order), b .pre .1 .2 .0))
 
 -- its mark can rise
 may-raise : (b : tie.Start) → let a = b .args in
@@ -86,7 +86,7 @@ open-signal-requires c κs =
     let a = d .before .before in
     let b = begin a in
     let w = wanted a _ (d .y .given .1) in
-    (b .pre .0, ((b .pre .1 .0, b .pre .1 .1, w .0, w .2), above-read (b .pre .0) (b .pre .1 .2) (b .pre .1 .3) (w .1)))
+    (b .pre .0, ((b .pre .1 .0, b .pre .1 .1, w .0, w .2), above-read (b .pre .0) (b .pre .1 .2) (w .1)))
 
 enum-told-3 : tie.Need-enum-told-3
 enum-told-3 c = search needs
@@ -126,7 +126,7 @@ returns c =
     let b = begin a in
     let w = wanted a _ (d .at .given .1) in
     let e = k .close-top .ensures in
-    rw (e .0 .0, e .0 .1, e .1) (close (b .pre .0) (b .pre .1 .2) (b .pre .1 .3) _ (b .pre .1 .1) (w .0) (w .1) (w .2))
+    rw (e .0 .0, e .0 .1, e .1) (close (b .pre .0) (b .pre .1 .2) _ (b .pre .1 .1) (w .0) (w .1) (w .2))
 
 same-length-6 : tie.Need-same-length-6
 same-length-6 c = search needs
@@ -151,7 +151,7 @@ returns-2 c =
     let b = begin a in
     let w = wanted a _ (d .enum-told .given .1) in
     let e = k .close-top2 .ensures in
-    rw (e .0 .0, e .0 .1, e .1) (leave (b .pre .0) (b .pre .1 .2) (b .pre .1 .3) (b .pre .1 .1) (w .0) (w .1))
+    rw (e .0 .0, e .0 .1, e .1) (leave (b .pre .0) (b .pre .1 .2) (b .pre .1 .1) (w .0) (w .1))
 
 same-length-11 : tie.Need-same-length-11
 same-length-11 c = search needs
@@ -173,7 +173,7 @@ returns-3 c =
     let b = begin a in
     let w = wanted a _ (d .enum-told2 .given .1) in
     let e = k .raise-top .ensures in
-    rw (e .0, e .1) (raise (b .pre .0) (b .pre .1 .2) (b .pre .1 .3) _ _ (b .pre .1 .1) refl (w .0) (omega arith) (b .pre .0 .best-loop) (λ i y e r. inl (w .1 i y e r)))
+    rw (e .0, e .1) (raise (b .pre .0) (b .pre .1 .2) _ _ (b .pre .1 .1) refl (w .0) (omega arith) (b .pre .0 .best-loop) (λ i y e r. inl (w .1 i y e r)))
 
 same-length-15 : tie.Need-same-length-15
 same-length-15 c = search needs
@@ -213,7 +213,7 @@ returns-5 c =
     let a = c .before .before in
     let b = begin a in
     let w = wanted a _ (c .enum-told3 .given .1) in
-    merge (b .pre .0) (b .pre .1 .2) (b .pre .1 .3) _ (w .0) (w .1) (w .2)
+    merge (b .pre .0) (b .pre .1 .2) _ (w .0) (w .1) (w .2)
 
 same-length-25 : tie.Need-same-length-25
 same-length-25 c = search needs
@@ -236,7 +236,7 @@ returns-6 c =
     let w = wanted a _ (d .enum-told4 .given .1) in
     let m = k .before .smaller .ensures in
     let e = k .raise-top2 .ensures in
-    rw (e .0, e .1) (meet (b .pre .0) (b .pre .1 .2) (b .pre .1 .3) _ _ _ (b .pre .1 .1) refl (w .3) (m .1) (m .0) (m .2) (w .0) (w .4) (w .1) (w .2))
+    rw (e .0, e .1) (meet (b .pre .0) (b .pre .1 .2) _ _ _ (b .pre .1 .1) refl (w .3) (m .1) (m .0) (m .2) (w .0) (w .4) (w .1) (w .2))
 
 pub take-turn-spec : {M : Type 1} → statement M
 take-turn-spec =
