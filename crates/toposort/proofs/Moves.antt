@@ -70,7 +70,8 @@ module _ {g : ℕ → Gate} {N : ℕ} {b : Search} {p : Scan} (s : Components g 
         judged = λ x c p. omega (arith, s .judged x (down c) p);
         best-le = omega (arith, s .best-le);
         best-loop = bl;
-        listed = listed-keep g N b p top (m + 1) best′ h (λ w. omega (arith, o .left)) (λ w. omega (arith, o .left)) (λ w. omega (arith, s .best-le)) (s .listed);
+        listed = listed-keep g N b p top (m + 1) best′ h (λ w. omega (arith, o .left)) (λ w. omega (arith, o .left))
+            (λ w. omega (arith, s .best-le)) (s .listed);
       },
       omega (arith, room-less marks top (m + 1) h (omega arith) (omega (arith, o .left))),
     )
@@ -217,7 +218,8 @@ module _ {g : ℕ → Gate} {N : ℕ} {b : Search} {p : Scan} (s : Components g 
         judged = λ x c d. was c (λ c′. s .judged x c′ d) (λ o k. judged-on s x o (past o k) d);
         best-le = s .best-le;
         best-loop = s .best-loop;
-        listed = listed-add g N b p top h (λ w. omega arith) (order-room s top (top-below s t) (λ w. omega arith)) top-after len′ count′ (s .listed);
+        listed = listed-add g N b p top h (λ w. omega arith) (order-room s top (top-below s t) (λ w. omega arith)) top-after
+            len′ count′ (s .listed);
       },
       omega (arith, room-less marks top 8 h (omega arith) (omega arith)),
     )

@@ -1,18 +1,18 @@
 -- `toposort::open_signal` meets its contract. Assumes nothing.
 use Prim.Native.Nat.{_*_, _≤_, _<_}
 use native.Mathlib.Omega.{arith}
-use lib.ListN.{getD}
 use denote.Ref.{now}
-use Rattle.netlist.specs.Table.{rowLength, signalCount}
+use Rattle.netlist.specs.Table.{signalCount}
 use Rattle.toposort.proofs.Components.{depth-le, count-le}
 use Rattle.toposort.proofs.Opening.{len-lt, push}
-use Rattle.toposort.proofs.Reading.{places-most, none-before}
+use Rattle.toposort.proofs.Reading.{headOf, places-most, none-before}
 use borrow.Author.Needs.{needs}
 use Rattle.toposort.proofs.open_signal.Statement.{statement}
 use Rattle.toposort.proofs.open_signal.Tie as tie
 
 -- the stack has room, and so have the other arrays
-has-room : (c : tie.Start) → (c .args .p .len < signalCount (c .args .n)) × (c .args .p .count ≤ c .args .p .len) × (c .args .p .depth ≤ c .args .p .len)
+has-room : (c : tie.Start) → let p = c .args .p in
+    (p .len < signalCount (c .args .n)) × (p .count ≤ p .len) × (p .depth ≤ p .len)
 has-room c = (
   len-lt (c .pre .0) _ (c .pre .1 .0 .2) (c .pre .1 .0 .3),
   count-le (c .pre .0),
@@ -91,7 +91,7 @@ same-length-5 c = search needs
 returns : tie.Need-returns
 returns c =
     let s = start c in
-    let most = places-most (s .args .n) (getD (now (s .args .table)) (rowLength * s .args .y) 0) in
+    let most = places-most (s .args .n) (headOf (now (s .args .table)) (s .args .n) (s .args .y)) in
     let e = c .first-mark .ensures in
     push (s .pre .0) _ (s .pre .1 .0 .2) (s .pre .1 .0 .3) _ (omega arith) (omega arith)
     (λ i z h r. none-before (now (s .args .table)) (s .args .n) (s .args .y) i z (omega arith) r) (s .pre .1 .0 .1) (s .pre .1 .1)

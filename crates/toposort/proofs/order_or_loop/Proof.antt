@@ -61,13 +61,17 @@ same-length : tie.Need-same-length
 same-length c = search needs
 
 returns : tie.Need-returns
-returns c = let s = c .before .before .before .before .before .before .before .before .scan-all .ensures in (c .if1 .taken, s .loops (c .if1 .taken), s .least)
+returns c =
+    let s = c .before .before .before .before .before .before .before .before .scan-all .ensures in
+    (c .if1 .taken, s .loops (c .if1 .taken), s .least)
 
 same-length-2 : tie.Need-same-length-2
 same-length-2 c = search needs
 
 returns-2 : tie.Need-returns-2
-returns-2 c = let s = c .before .before .before .before .before .before .before .before .scan-all .ensures in s .ordered (omega (arith, s .best-le, c .if1 .left))
+returns-2 c =
+    let s = c .before .before .before .before .before .before .before .before .scan-all .ensures in
+    s .ordered (omega (arith, s .best-le, c .if1 .left))
 
 pub order-or-loop-spec : {M : Type 1} → statement M
 order-or-loop-spec =

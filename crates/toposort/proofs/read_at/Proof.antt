@@ -1,17 +1,17 @@
 -- `toposort::read_at` meets its contract: the head says whether the place is read. Assumes nothing.
-use Prim.Native.Nat.{_-_, _*_}
+use Prim.Native.Nat.{_-_, _<_}
 use mathlib.Core.Path.{_≡_, sym, _∙_}
 use native.Mathlib.Omega.{arith}
-use lib.ListN.{getD}
 use denote.Ref.{now}
 use Rattle.toposort.specs.Reading.{placeCount}
-use Rattle.toposort.proofs.Reading.{counted-source, other-source}
+use Rattle.toposort.proofs.Reading.{headOf, counted-source, other-source}
 use borrow.Author.Needs.{needs}
 use Rattle.toposort.proofs.read_at.Statement.{statement}
 use Rattle.toposort.proofs.read_at.Tie as tie
 
 -- what the code counts is what the head says
-counted : (c : tie.After-place-count) → c .place-count .result ≡ placeCount (c .before .before .before .before .args .n) (getD (now (c .before .before .before .before .args .table)) (7 * c .before .before .before .before .args .x) 0)
+counted : (c : tie.After-place-count) → let a = c .before .before .before .before .args in
+    c .place-count .result ≡ placeCount (a .n) (headOf (now (a .table)) (a .n) (a .x))
 counted c = rw (c .before .wide16 .ensures) at (c .place-count .ensures)
 
 mul-at : tie.Need-mul-at
@@ -53,14 +53,14 @@ read-of-requires c κs = search needs
 returns : tie.Need-returns
 returns c =
     let a = c .before .before .before .before in
-    let b = a .before .before .before .before in
-    c .read-of .ensures
-    ∙ rw (c .before .wide162 .ensures) (sym (counted-source (now (b .args .table)) (b .args .n) (b .args .x) (5 - b .args .i) (omega (arith, counted a, c .before .before .before .if1 .taken))))
+    let b = a .before .before .before .before .args in
+    let h : 5 - b .i < placeCount (b .n) (headOf (now (b .table)) (b .n) (b .x)) = omega (arith, counted a, c .before .before .before .if1 .taken) in
+    c .read-of .ensures ∙ rw (c .before .wide162 .ensures) (sym (counted-source (now (b .table)) (b .n) (b .x) (5 - b .i) h))
 
 returns-2 : tie.Need-returns-2
 returns-2 c =
-    let b = c .before .before .before .before .before in
-    sym (other-source (now (b .args .table)) (b .args .n) (b .args .x) (5 - b .args .i) (omega (arith, counted (c .before), c .if1 .left)))
+    let b = c .before .before .before .before .before .args in
+    sym (other-source (now (b .table)) (b .n) (b .x) (5 - b .i) (omega (arith, counted (c .before), c .if1 .left)))
 
 pub read-at-spec : {M : Type 1} → statement M
 read-at-spec =

@@ -173,7 +173,8 @@ returns-3 c =
     let b = begin a in
     let w = wanted a _ (d .enum-told2 .given .1) in
     let e = k .raise-top .ensures in
-    rw (e .0, e .1) (raise (b .pre .0) (b .pre .1 .2) _ _ (b .pre .1 .1) refl (w .0) (omega arith) (b .pre .0 .best-loop) (λ i y e r. inl (w .1 i y e r)))
+    rw (e .0, e .1)
+    (raise (b .pre .0) (b .pre .1 .2) _ _ (b .pre .1 .1) refl (w .0) (omega arith) (b .pre .0 .best-loop) (λ i y e r. inl (w .1 i y e r)))
 
 same-length-15 : tie.Need-same-length-15
 same-length-15 c = search needs
@@ -236,7 +237,8 @@ returns-6 c =
     let w = wanted a _ (d .enum-told4 .given .1) in
     let m = k .before .smaller .ensures in
     let e = k .raise-top2 .ensures in
-    rw (e .0, e .1) (meet (b .pre .0) (b .pre .1 .2) _ _ _ (b .pre .1 .1) refl (w .3) (m .1) (m .0) (m .2) (w .0) (w .4) (w .1) (w .2))
+    rw (e .0, e .1)
+    (meet (b .pre .0) (b .pre .1 .2) _ _ _ (b .pre .1 .1) refl (w .3) (m .1) (m .0) (m .2) (w .0) (w .4) (w .1) (w .2))
 
 pub take-turn-spec : {M : Type 1} → statement M
 take-turn-spec =
