@@ -12,6 +12,7 @@ use Rattle.netlist.specs.Graph.{Reads, Depends, Loop, Before}
 use Rattle.netlist.specs.Graph.Depends.{direct, through}
 use Rattle.netlist.specs.Settle.{readsIn}
 use Rattle.toposort.specs.declared.Scan.{Scan}
+use Rattle.toposort.specs.Tally.{lastMark, doneMark}
 use Rattle.toposort.specs.Search.{Search, searchOf, withBest, cutTo}
 use Rattle.toposort.specs.Components.{Open, IsTop, On, Closed, Within, Passed, TopReady, Reaches, Above, Listed, Components, Moved}
 use Rattle.netlist.proofs.Order.{depends-more, depends-trans}
@@ -35,7 +36,7 @@ marked b x v = searchOf (set (b .marks) x v) (b .pos) (b .stack) (b .heads) (b .
 
 -- the top is done
 abbrev pub finished : Search → Scan → ℕ → Search
-finished b p top = searchOf (set (b .marks) top 8) (b .pos) (b .stack) (b .heads) (b .path) (set (b .order) (p .done) top)
+finished b p top = searchOf (set (b .marks) top doneMark) (b .pos) (b .stack) (b .heads) (b .path) (set (b .order) (p .done) top)
 
 -- y is opened with mark m
 abbrev pub opened : Search → Scan → ℕ → ℕ → Search
@@ -70,27 +71,27 @@ module _ (g : ℕ → Gate) (N : ℕ) (b : Search) (p : Scan) where
   open Search b using (marks, order)
   open Scan p using (done, best)
 
-  pub listed-keep : (x v best′ : ℕ) → x < length marks → (getD marks x 0 ≡ 8 → ⊥) → (v ≡ 8 → ⊥) → (best′ ≡ N → best ≡ N)
+  pub listed-keep : (x v best′ : ℕ) → x < length marks → (getD marks x 0 ≡ doneMark → ⊥) → (v ≡ doneMark → ⊥) → (best′ ≡ N → best ≡ N)
       → Listed g N b p → Listed g N (marked b x v) (withBest p best′)
   listed-keep x v best′ h k w f s =
       record {
-        counted = s .counted ∙ sym (tally-keep 8 marks x v k w);
+        counted = s .counted ∙ sym (tally-keep doneMark marks x v k w);
         finished = λ i l. stored marks x v (getD order i 0) h (λ p q. absurd (k (rw p at (s .finished i l)))) (λ p q. q ∙ s .finished i l);
         named = λ z e. stored marks x v z h (λ p q. absurd (w (sym q ∙ e))) (λ p q. s .named z (sym q ∙ e));
         once = s .once;
         after = λ e. s .after (f e);
       }
 
-  pub listed-add : (x : ℕ) → x < length marks → (getD marks x 0 ≡ 8 → ⊥) → done < length order
-      → (best ≡ N → (y : ℕ) → Reads (readsIn g) x y → getD marks y 0 ≡ 8)
+  pub listed-add : (x : ℕ) → x < length marks → (getD marks x 0 ≡ doneMark → ⊥) → done < length order
+      → (best ≡ N → (y : ℕ) → Reads (readsIn g) x y → getD marks y 0 ≡ doneMark)
       → (len′ count′ : ℕ) → Listed g N b p → Listed g N (finished b p x) (cutTo p len′ count′)
   listed-add x h k r all _ _ s =
       record {
-        counted = omega (arith, s .counted, tally-add 8 marks x h k);
+        counted = omega (arith, s .counted, tally-add doneMark marks x h k);
         finished = λ i l. stored order done x i r
-            (λ p q. rw q (getD-set-same marks x 8 0 h))
+            (λ p q. rw q (getD-set-same marks x doneMark 0 h))
             (λ p q. rw q (was-done i (omega arith)));
-        named = λ z e. stored marks x 8 z h
+        named = λ z e. stored marks x doneMark z h
             (λ p q. (done, omega arith, getD-set-same order done x 0 r ∙ sym p))
             (λ p q. more z (before-set order done x done (omega arith) z (s .named z (sym q ∙ e))));
         once = λ i j l m e. stored order done x j r
@@ -101,8 +102,8 @@ module _ (g : ℕ → Gate) (N : ℕ) (b : Search) (p : Scan) where
             (λ p q. before-set order done x i (omega arith) y (s .after b i y (omega arith) (reads-at i (getD order i 0) y q e)));
       }
     where
-      was-done : (i : ℕ) → i < done → getD (set marks x 8) (getD order i 0) 0 ≡ 8
-      was-done i l = stored marks x 8 (getD order i 0) h (λ p q. q) (λ p q. q ∙ s .finished i l)
+      was-done : (i : ℕ) → i < done → getD (set marks x doneMark) (getD order i 0) 0 ≡ doneMark
+      was-done i l = stored marks x doneMark (getD order i 0) h (λ p q. q) (λ p q. q ∙ s .finished i l)
 
       more : (y : ℕ) → Before (set order done x) done y → Before (set order done x) (done + 1) y
       more y b = (b .0, omega (arith, b .1), b .2)
@@ -155,23 +156,23 @@ module _ {g : ℕ → Gate} {N : ℕ} {b : Search} {p : Scan} (s : Components g 
   closed-from x y f (through {y = z} r d) = closed-from z y (λ w q. s .closed z w (f z r) q) d
 
   -- the order has room for one more signal
-  pub order-room : (x : ℕ) → x < N → (getD marks x 0 ≡ 8 → ⊥) → done < length order
-  order-room x h k = omega (arith, s .listed .counted, s .sized .order, s .sized .marks, tally-lt 8 marks x (inside x h) k)
+  pub order-room : (x : ℕ) → x < N → (getD marks x 0 ≡ doneMark → ⊥) → done < length order
+  order-room x h k = omega (arith, s .listed .counted, s .sized .order, s .sized .marks, tally-lt doneMark marks x (inside x h) k)
 
   -- a seen signal that is off the stack is done
-  pub closed-done : (x : ℕ) → Closed b p x → getD marks x 0 ≡ 8
+  pub closed-done : (x : ℕ) → Closed b p x → getD marks x 0 ≡ doneMark
   closed-done x c =
-      same-or-not (getD marks x 0) 8 (λ e. e)
+      same-or-not (getD marks x 0) doneMark (λ e. e)
       (λ d.
       let b = s .pathed .named x (record { seen = c .seen; left = omega (arith, s .low x) }) in
       absurd (c .off (rw (b .2) at (s .pathed .on (b .0) (b .1)))))
 
   -- each read of a signal on the stack whose reads are all done has been looked at
-  pub passed-read : (x y : ℕ) → On b p x → 6 < getD marks x 0 → Reads (readsIn g) x y → Passed b p x y
+  pub passed-read : (x y : ℕ) → On b p x → lastMark ≤ getD marks x 0 → Reads (readsIn g) x y → Passed b p x y
   passed-read x y o l r = let p = place-of g x y r in s .looked x (p .0) y o (omega (arith, p .1)) (p .1) (p .2)
 
   -- such a signal is judged
-  pub judged-on : (x : ℕ) → On b p x → 6 < getD marks x 0 → Loop (readsIn g) x → best ≤ x
+  pub judged-on : (x : ℕ) → On b p x → lastMark ≤ getD marks x 0 → Loop (readsIn g) x → best ≤ x
   judged-on x o l d =
       below-or-not x best
       (λ k. absurd (closed-from x x (λ z r. ⊎-elim (λ c. c) (λ m. absurd (omega (arith, m .least))) (passed-read x z o l r)) d .off o))

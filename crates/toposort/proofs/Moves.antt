@@ -8,6 +8,7 @@ use Rattle.netlist.specs.declared.Gate.{Gate}
 use Rattle.toposort.specs.declared.Read.the-variants.{Signal}
 use Rattle.netlist.specs.Graph.{Reads, Loop, Before}
 use Rattle.netlist.specs.Settle.{readsIn}
+use Rattle.toposort.specs.Tally.{lastMark, doneMark}
 use Rattle.toposort.specs.Reading.{readAt}
 use Rattle.toposort.specs.declared.Scan.{Scan}
 use Rattle.toposort.specs.Search.{Search, withBest, cutTo}
@@ -24,7 +25,7 @@ module _ {g : ℕ → Gate} {N : ℕ} {b : Search} {p : Scan} (s : Components g 
 
   module _ {top : ℕ} (t : IsTop path p top) where
     -- the top's read at place m - 1 is done
-    pub raise : (m best′ : ℕ) → next < N → getD marks top 0 ≡ m → (m ≡ 7 → ⊥) → best′ ≤ best → (best′ < N → Loop (readsIn g) best′)
+    pub raise : (m best′ : ℕ) → next < N → getD marks top 0 ≡ m → (m ≡ lastMark → ⊥) → best′ ≤ best → (best′ < N → Loop (readsIn g) best′)
         → ((i y : ℕ) → suc i ≡ m → readAt g top i ≡ Signal y → Passed b (withBest p best′) top y)
         → Moved g N marks p (marked b top (m + 1)) (withBest p best′)
     raise m best′ l e d less-or-same bl new = (
@@ -94,7 +95,7 @@ module _ {g : ℕ → Gate} {N : ℕ} {b : Search} {p : Scan} (s : Components g 
         less (inr w) = inr (record { on = w .on; least = omega (arith, w .least); within = w .within })
 
     -- the top reads a signal of its component
-    pub meet : (m y best′ : ℕ) → next < N → getD marks top 0 ≡ m → (m ≡ 7 → ⊥) → best′ ≤ best → best′ ≤ top → (best′ ≡ best) ⊎ (best′ ≡ top)
+    pub meet : (m y best′ : ℕ) → next < N → getD marks top 0 ≡ m → (m ≡ lastMark → ⊥) → best′ ≤ best → best′ ≤ top → (best′ ≡ best) ⊎ (best′ ≡ top)
         → Reads (readsIn g) top y → ((i z : ℕ) → suc i ≡ m → readAt g top i ≡ Signal z → z ≡ y)
         → On b p y → getD heads (count - 1) 0 ≤ getD pos y 0
         → Moved g N marks p (marked b top (m + 1)) (withBest p best′)
@@ -159,7 +160,7 @@ module _ {g : ℕ → Gate} {N : ℕ} {b : Search} {p : Scan} (s : Components g 
             (same-or-not a (count - 1) (λ p. absurd (omega (arith, rw p at c))) (λ p. w a (omega arith) (omega arith))))
 
     -- the top is done, and the stack is cut to length len′ with count′ components
-    retire : (len′ count′ : ℕ) → next < N → getD marks top 0 ≡ 7
+    retire : (len′ count′ : ℕ) → next < N → getD marks top 0 ≡ lastMark
         → len′ ≤ len → getD pos top 0 ≤ len′ → count′ ≤ count
         → ((k : ℕ) → k < count′ → (getD heads k 0 < len′) × (getD heads k 0 ≡ getD pos top 0 → ⊥))
         → (0 < len′ → 0 < count′)
@@ -171,7 +172,7 @@ module _ {g : ℕ → Gate} {N : ℕ} {b : Search} {p : Scan} (s : Components g 
         bounded = s .bounded;
         small = s .small;
         sized = record {
-          marks = length-set marks top 8 ∙ s .sized .marks;
+          marks = length-set marks top doneMark ∙ s .sized .marks;
           pos = s .sized .pos;
           stack = s .sized .stack;
           heads = s .sized .heads;
@@ -180,12 +181,12 @@ module _ {g : ℕ → Gate} {N : ℕ} {b : Search} {p : Scan} (s : Components g 
         };
         next-le = s .next-le;
         ended = λ w. absurd (omega arith);
-        low = λ z. stored marks top 8 z h (λ _ q. omega arith) (λ _ q. rw q (s .low z));
-        started = λ z k. stored marks top 8 z h (λ _ q. omega arith) (λ _ q. rw q (s .started z k));
+        low = λ z. stored marks top doneMark z h (λ _ q. omega arith) (λ _ q. rw q (s .low z));
+        started = λ z k. stored marks top doneMark z h (λ _ q. omega arith) (λ _ q. rw q (s .started z k));
         placed = record {
           at = λ i k. s .placed .at i (omega arith);
-          seen = λ i k. stored marks top 8 (getD stack i 0) h (λ _ q. omega arith) (λ _ q. rw q (s .placed .seen i (omega arith)));
-          fits = rw (tally-keep 0 marks top 8 (λ z. omega arith) (λ z. omega arith)) (omega (arith, s .placed .fits));
+          seen = λ i k. stored marks top doneMark (getD stack i 0) h (λ _ q. omega arith) (λ _ q. rw q (s .placed .seen i (omega arith)));
+          fits = rw (tally-keep 0 marks top doneMark (λ z. omega arith) (λ z. omega arith)) (omega (arith, s .placed .fits));
         };
         headed = record {
           low = λ k m. s .headed .low k (omega arith);
@@ -199,16 +200,16 @@ module _ {g : ℕ → Gate} {N : ℕ} {b : Search} {p : Scan} (s : Components g 
         pathed = record {
           low = λ i k. s .pathed .low i (omega arith);
           on = λ i k. let b = under i k in record { below = omega arith; holds = s .pathed .on i (omega arith) .holds };
-          opened = λ i k. stored marks top 8 (getD path i 0) h
+          opened = λ i k. stored marks top doneMark (getD path i 0) h
               (λ p q. let b = under i k in absurd (omega (arith, ap (λ x. getD pos x 0) p)))
               (λ p q. record { seen = rw q (s .pathed .opened i (omega arith) .seen); left = rw q (s .pathed .opened i (omega arith) .left) });
           sorted = λ i j k m. s .pathed .sorted i j k (omega arith);
-          named = λ x w. stored marks top 8 x h
+          named = λ x w. stored marks top doneMark x h
               (λ p q. absurd (omega (arith, w .left)))
               (λ p q. shorter x (s .pathed .named x (record { seen = rw q at (w .seen); left = rw q at (w .left) })) p);
         };
         reach = λ i j a b w. s .reach i j (omega arith) (omega arith) (λ k m c. w k (only i k a m c) c);
-        looked = λ x i y o k b r. stored marks top 8 x h
+        looked = λ x i y o k b r. stored marks top doneMark x h
             (λ p q. kept o (s .looked x i y (more o) (rw p (omega arith)) b r))
             (λ p q. kept o (s .looked x i y (more o) (rw q at k) b r));
         closed = λ x y c r. was c
@@ -221,14 +222,14 @@ module _ {g : ℕ → Gate} {N : ℕ} {b : Search} {p : Scan} (s : Components g 
         listed = listed-add g N b p top h (λ w. omega arith) (order-room s top (top-below s t) (λ w. omega arith)) top-after
             len′ count′ (s .listed);
       },
-      omega (arith, room-less marks top 8 h (omega arith) (omega arith)),
+      omega (arith, room-less marks top doneMark h (omega arith) (omega arith)),
     )
       where
         h : top < length marks
         h = inside s top (top-below s t)
 
         -- as long as no loop is known, what the top reads is done
-        top-after : best ≡ N → (y : ℕ) → Reads (readsIn g) top y → getD marks y 0 ≡ 8
+        top-after : best ≡ N → (y : ℕ) → Reads (readsIn g) top y → getD marks y 0 ≡ doneMark
         top-after g y r =
             ⊎-elim (closed-done s y) (λ w. absurd (omega (arith, w .least, top-below s t)))
             (passed-read s top y (top-on s t) (omega arith) r)
@@ -249,12 +250,12 @@ module _ {g : ℕ → Gate} {N : ℕ} {b : Search} {p : Scan} (s : Components g 
 
         -- what is closed stays so, and what the cut takes off is closed
         still : {x : ℕ} → Closed b p x → Closed (finished b p top) (cutTo p len′ count′) x
-        still c = record { seen = closed-up s top 8 h (omega arith) c .seen; off = λ o. c .off (more o) }
+        still c = record { seen = closed-up s top doneMark h (omega arith) c .seen; off = λ o. c .off (more o) }
 
         gone : {x : ℕ} → On b p x → len′ ≤ getD pos x 0 → Closed (finished b p top) (cutTo p len′ count′) x
         gone {x} o k =
             record {
-              seen = stored marks top 8 x h (λ _ q. omega arith) (λ _ q. rw q (on-seen s o));
+              seen = stored marks top doneMark x h (λ _ q. omega arith) (λ _ q. rw q (on-seen s o));
               off = λ o′. omega (arith, o′ .below);
             }
 
@@ -263,16 +264,17 @@ module _ {g : ℕ → Gate} {N : ℕ} {b : Search} {p : Scan} (s : Components g 
         was {x = x} c f g =
             on-or-not s x
             (λ o. below-or-not (getD pos x 0) len′ (λ k. absurd (c .off (record { below = k; holds = o .holds }))) (λ k. g o k))
-            (λ d. f (record { seen = stored marks top 8 x h (λ p q. rw p (omega arith)) (λ p q. rw q at (c .seen)); off = d }))
+            (λ d. f (record { seen = stored marks top doneMark x h (λ p q. rw p (omega arith)) (λ p q. rw q at (c .seen)); off = d }))
 
         -- the reads of what the cut takes off are all done
-        past : {x : ℕ} → On b p x → len′ ≤ getD pos x 0 → 6 < getD marks x 0
+        past : {x : ℕ} → On b p x → len′ ≤ getD pos x 0 → lastMark ≤ getD marks x 0
         past {x} o k =
-            below-or-not 6 (getD marks x 0) (λ m. m)
+            below-or-not (getD marks x 0) lastMark
             (λ m.
             let b = path-le s t x (s .pathed .named x (record { seen = on-seen s o; left = omega arith })) in
             let p : x ≡ top = same-place s o (top-on s t) (omega arith) in
             rw p (omega arith))
+            (λ m. m)
 
         kept : {x y : ℕ} → On b (cutTo p len′ count′) x → Passed b p x y
             → Passed (finished b p top) (cutTo p len′ count′) x y
@@ -283,7 +285,7 @@ module _ {g : ℕ → Gate} {N : ℕ} {b : Search} {p : Scan} (s : Components g 
             (λ k. inl (gone (w .on) k))
 
     -- the top is done, and its component goes on
-    pub leave : next < N → getD marks top 0 ≡ 7 → (getD pos top 0 ≡ getD heads (count - 1) 0 → ⊥)
+    pub leave : next < N → getD marks top 0 ≡ lastMark → (getD pos top 0 ≡ getD heads (count - 1) 0 → ⊥)
         → Moved g N marks p (finished b p top) (cutTo p len count)
     leave l e d =
         retire len count l e (omega arith) (omega (arith, top-on s t .below)) (omega arith)
@@ -298,7 +300,7 @@ module _ {g : ℕ → Gate} {N : ℕ} {b : Search} {p : Scan} (s : Components g 
         (λ i j m k _. absurd (omega arith))
 
     -- the top is done, and so is its component, which begins at the top
-    pub close : (at : ℕ) → next < N → getD marks top 0 ≡ 7 → at ≡ getD pos top 0 → getD pos top 0 ≡ getD heads (count - 1) 0
+    pub close : (at : ℕ) → next < N → getD marks top 0 ≡ lastMark → at ≡ getD pos top 0 → getD pos top 0 ≡ getD heads (count - 1) 0
         → Moved g N marks p (finished b p top) (cutTo p at (count - 1))
     close at l e a d =
         retire at (count - 1) l e (omega (arith, top-on s t .below)) (omega arith) (omega arith)

@@ -10,6 +10,7 @@ use Rattle.netlist.specs.Graph.{WellFormed, Before}
 use Rattle.netlist.specs.Settle.{readsIn}
 use Rattle.netlist.specs.Table.{signalLimit}
 use Rattle.toposort.specs.declared.Read.the-variants.{Signal}
+use Rattle.toposort.specs.Tally.{doneMark}
 use Rattle.toposort.specs.Reading.{readAt}
 use Rattle.toposort.specs.declared.Scan.{Scan}
 use Rattle.toposort.specs.Search.{Search}
@@ -26,7 +27,7 @@ module _ {g : ℕ → Gate} {N : ℕ} {b : Search} {p : Scan} (s : Components g 
     pub len-lt : len < N
     len-lt = omega (arith, s .placed .fits, tally-less 0 marks y 1 (inside s y h) new (λ p. omega arith))
 
-    pub push : (m : ℕ) → 0 < m → m < 8 → ((i z : ℕ) → suc i < m → readAt g y i ≡ Signal z → ⊥) → next < N → Above g stack p y
+    pub push : (m : ℕ) → 0 < m → m < doneMark → ((i z : ℕ) → suc i < m → readAt g y i ≡ Signal z → ⊥) → next < N → Above g stack p y
         → Moved g N marks p (opened b p y m) (oneMore p)
     push m some few none l into = (
       record {
@@ -243,7 +244,7 @@ module _ {g : ℕ → Gate} {N : ℕ} {b : Search} {p : Scan} (s : Components g 
       shut x l = record { seen = s .started x (omega arith); off = λ o. omega (arith, o .below, empty s (s .ended e)) }
 
       full : done ≡ N
-      full = s .listed .counted ∙ tally-all 8 marks (λ x l. closed-done s x (shut x (omega (arith, s .sized .marks)))) ∙ s .sized .marks
+      full = s .listed .counted ∙ tally-all doneMark marks (λ x l. closed-done s x (shut x (omega (arith, s .sized .marks)))) ∙ s .sized .marks
 
 -- the state at the start
 pub start : (g : ℕ → Gate) (N : ℕ) (b : Search) → WellFormed (readsIn g) N → N ≤ signalLimit → Fresh N b
@@ -284,7 +285,7 @@ start g N b bounded small (sized, unseen) =
       best-le = omega arith;
       best-loop = λ l. absurd (omega arith);
       listed = record {
-        counted = sym (tally-none 8 (b .marks) (λ i e. omega (arith, unseen i)));
+        counted = sym (tally-none doneMark (b .marks) (λ i e. omega (arith, unseen i)));
         finished = λ i l. absurd (omega arith);
         named = λ x e. absurd (omega (arith, unseen x));
         once = λ i j l m e. omega arith;

@@ -18,7 +18,7 @@ use Rattle.netlist.specs.Rule.{sourcesOf, signalsIn, readsOf}
 use Rattle.netlist.specs.Graph.{Reads}
 use Rattle.netlist.specs.Settle.{readsIn}
 use Rattle.netlist.specs.Table.{rowLength, sourceOf, gateWith, gateOf}
-use Rattle.toposort.specs.Reading.{asRead, readIn, readAt, placeCount, firstMark}
+use Rattle.toposort.specs.Reading.{asRead, readIn, readAt, headOf, placeCount, firstMark}
 
 -- a signal among sources has a place
 place-in : (ss : List Source) (y : ℕ) → List·Memᴰ y (signalsIn ss) → (i : ℕ) × (i < length ss) × (readIn ss i ≡ Signal y)
@@ -108,25 +108,24 @@ first-sources n head p =
     by false false false false false h = refl
 
 module _ (table : List ℕ) (n x : ℕ) where
-  -- the head of signal x's row, and its source i
-  abbrev pub headOf : ℕ
-  headOf = getD table (rowLength * x) 0
+  abbrev head : ℕ
+  head = headOf table x
 
   abbrev source : ℕ → Source
   source i = sourceOf (getD table (rowLength * x + i) 0)
 
   -- source k of a row is read as what it is, where the head counts it
-  pub counted-source : (k : ℕ) → k < placeCount n headOf
+  pub counted-source : (k : ℕ) → k < placeCount n head
       → readIn (sourcesOf (gateOf table n x)) k ≡ asRead (sourceOf (getD table (rowLength * x + 1 + k) 0))
   unfolding gateOf
   counted-source k h =
       let e : rowLength * x + 1 + k ≡ rowLength * x + suc k = omega arith in
-      rw (first-sources n headOf source, e) (first-in (placeCount n headOf) source k h)
+      rw (first-sources n head source, e) (first-in (placeCount n head) source k h)
 
   -- and as nothing elsewhere
-  pub other-source : (k : ℕ) → placeCount n headOf ≤ k → readIn (sourcesOf (gateOf table n x)) k ≡ Nothing
+  pub other-source : (k : ℕ) → placeCount n head ≤ k → readIn (sourcesOf (gateOf table n x)) k ≡ Nothing
   unfolding gateOf
-  other-source k h = rw (first-sources n headOf source) (first-out (placeCount n headOf) source k h)
+  other-source k h = rw (first-sources n head source) (first-out (placeCount n head) source k h)
 
 pub places-most : (n head : ℕ) → placeCount n head ≤ 6
 unfolding placeCount
@@ -140,5 +139,5 @@ places-most n head = by (ltb head (4 * n)) (ltb head (16 * n)) (eqb head (16 * n
     by false false false false = lit≤ tt
 
 -- nothing is read before the first mark
-pub none-before : (table : List ℕ) (n x i y : ℕ) → suc i < firstMark n (headOf table n x) → readAt (gateOf table n) x i ≡ Signal y → ⊥
+pub none-before : (table : List ℕ) (n x i y : ℕ) → suc i < firstMark n (headOf table x) → readAt (gateOf table n) x i ≡ Signal y → ⊥
 none-before table n x i y h r = not-both (gateOf table n) x i y (other-source table n x (5 - i) (omega arith)) r

@@ -10,7 +10,7 @@ use lib.ListN.{length, getD, set, take, replicate, length-set, length-replicate}
 use lib.Seq.{getD-set-same, getD-set-other, length-take-le}
 use lib.Dec.{eqb}
 use borrow.Author.Tests.{eq-eqb, ne-eqb}
-use Rattle.toposort.specs.Tally.{tally, room, one-if}
+use Rattle.toposort.specs.Tally.{doneMark, one-if, tally, room}
 
 -- by cases on whether x is y
 pub same-or-not : {C : Type 0} (x y : ℕ) → (x ≡ y → C) → ((x ≡ y → ⊥) → C) → C
@@ -86,8 +86,8 @@ tally-none d (a ∷ l) h = simp (ne-eqb a d (h 0), tally-none d l (λ i. h (suc 
 
 -- ---- room
 
--- a mark that rises, to at most 8, takes room
-pub room-less : (l : List ℕ) (i v : ℕ) → i < length l → getD l i 0 < v → v ≤ 8 → room (set l i v) < room l
+-- a mark that rises takes room
+pub room-less : (l : List ℕ) (i v : ℕ) → i < length l → getD l i 0 < v → v ≤ doneMark → room (set l i v) < room l
 unfolding room
 room-less [] i v h k e = absurd (not-suc-le-zero h)
 room-less (a ∷ l) zero v h k e = omega arith

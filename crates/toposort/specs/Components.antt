@@ -13,13 +13,13 @@ use Rattle.netlist.specs.Graph.{Reads, Depends, Loop, WellFormed, Before, Order
 use Rattle.netlist.specs.Settle.{readsIn}
 use Rattle.netlist.specs.Table.{signalLimit}
 use Rattle.toposort.specs.Reading.{readAt}
-use Rattle.toposort.specs.Tally.{tally, room}
+use Rattle.toposort.specs.Tally.{lastMark, doneMark, tally, room}
 use Rattle.toposort.specs.Search.{Search}
 
 -- x is open
 pub record Open (marks : List ℕ) (x : ℕ) : Type 0 where
   pub seen : 0 < getD marks x 0
-  pub left : getD marks x 0 < 8
+  pub left : getD marks x 0 < doneMark
 
 -- each buffer has an entry for each of N signals
 abbrev pub Sized : ℕ → Search → Type 0
@@ -133,9 +133,9 @@ module _ (g : ℕ → Gate) (N : ℕ) (b : Search) (p : Scan) where
   abbrev pub Listed : Type 0
   Listed =
       record {
-        counted : done ≡ tally 8 marks;
-        finished : (i : ℕ) → i < done → getD marks (getD order i 0) 0 ≡ 8;
-        named : (x : ℕ) → getD marks x 0 ≡ 8 → Before order done x;
+        counted : done ≡ tally doneMark marks;
+        finished : (i : ℕ) → i < done → getD marks (getD order i 0) 0 ≡ doneMark;
+        named : (x : ℕ) → getD marks x 0 ≡ doneMark → Before order done x;
         once : (i j : ℕ) → i < j → j < done → getD order i 0 ≡ getD order j 0 → ⊥;
         after : best ≡ N → (i y : ℕ) → i < done → Reads (readsIn g) (getD order i 0) y → Before order i y;
       }
@@ -147,7 +147,7 @@ module _ (g : ℕ → Gate) (N : ℕ) (b : Search) (p : Scan) where
     pub sized : Sized N b
     pub next-le : next ≤ N
     pub ended : next ≡ N → depth ≡ 0
-    pub low : (x : ℕ) → getD marks x 0 ≤ 8
+    pub low : (x : ℕ) → getD marks x 0 ≤ doneMark
     pub started : (x : ℕ) → x < next → 0 < getD marks x 0
     pub placed : Placed N b p
     pub headed : Headed b p
@@ -163,15 +163,15 @@ module _ (g : ℕ → Gate) (N : ℕ) (b : Search) (p : Scan) where
 
   -- what the mark of the top, and the signal it reads next, say
   abbrev pub Wants : ℕ → Turn → Type 0
-  Wants top (Close at) = (getD marks top 0 ≡ 7) × (at ≡ getD pos top 0) × (getD pos top 0 ≡ getD heads (count - 1) 0)
-  Wants top Leave = (getD marks top 0 ≡ 7) × (getD pos top 0 ≡ getD heads (count - 1) 0 → ⊥)
+  Wants top (Close at) = (getD marks top 0 ≡ lastMark) × (at ≡ getD pos top 0) × (getD pos top 0 ≡ getD heads (count - 1) 0)
+  Wants top Leave = (getD marks top 0 ≡ lastMark) × (getD pos top 0 ≡ getD heads (count - 1) 0 → ⊥)
   Wants top Raise =
-      (getD marks top 0 ≡ 7 → ⊥) × ((i y : ℕ) → suc i ≡ getD marks top 0 → readAt g top i ≡ Signal y → Closed b p y)
+      (getD marks top 0 ≡ lastMark → ⊥) × ((i y : ℕ) → suc i ≡ getD marks top 0 → readAt g top i ≡ Signal y → Closed b p y)
   Wants top (OpenUnseen y) = (y < N) × Reads (readsIn g) top y × (getD marks y 0 ≡ 0)
   Wants top (Merge y) = Reads (readsIn g) top y × On b p y × (getD pos y 0 < getD heads (count - 1) 0)
   Wants top (Meet y) =
       Reads (readsIn g) top y × On b p y × (getD heads (count - 1) 0 ≤ getD pos y 0)
-      × (getD marks top 0 ≡ 7 → ⊥)
+      × (getD marks top 0 ≡ lastMark → ⊥)
       × ((i z : ℕ) → suc i ≡ getD marks top 0 → readAt g top i ≡ Signal z → z ≡ y)
 
 -- what the search may still do

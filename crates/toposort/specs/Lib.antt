@@ -1,5 +1,5 @@
-pub mod Reading
 pub mod Tally
+pub mod Reading
 pub mod Search
 pub mod Components
 pub mod Answer

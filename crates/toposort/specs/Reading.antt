@@ -3,12 +3,15 @@ use mathlib.Core.Bool.{cond}
 use mathlib.Core.List.{List, [], _∷_}
 use Prim.Native.Nat.{ℕ, zero, suc, _+_, _-_, _*_}
 use lib.Dec.{eqb, ltb}
+use lib.ListN.{getD}
 use Rattle.netlist.specs.declared.Source.{Source}
 use Rattle.netlist.specs.declared.Source.the-variants.{Constant, Input, Signal as SignalSource}
 use Rattle.netlist.specs.declared.Gate.{Gate}
 use Rattle.toposort.specs.declared.Read.{Read}
 use Rattle.toposort.specs.declared.Read.the-variants.{Signal, Nothing}
 use Rattle.netlist.specs.Rule.{sourcesOf}
+use Rattle.netlist.specs.Table.{rowLength}
+use Rattle.toposort.specs.Tally.{lastMark}
 
 -- "reading a pin is reading the signal that drives it, if any"
 unfoldable pub asRead : Source → Read
@@ -26,6 +29,10 @@ readIn (s ∷ ss) (suc i) = readIn ss i
 abbrev pub readAt : (ℕ → Gate) → ℕ → ℕ → Read
 readAt g x i = readIn (sourcesOf (g x)) (5 - i)
 
+-- the head of signal x's row
+abbrev pub headOf : List ℕ → ℕ → ℕ
+headOf table x = getD table (rowLength * x) 0
+
 -- how many sources a gate with this head reads, in a gate table of n slices
 unfoldable pub placeCount : ℕ → ℕ → ℕ
 placeCount n head =
@@ -33,4 +40,4 @@ placeCount n head =
 
 -- the mark of a signal that is opened, past the places that its gate doesn't have
 abbrev pub firstMark : ℕ → ℕ → ℕ
-firstMark n head = 7 - placeCount n head
+firstMark n head = lastMark - placeCount n head

@@ -6,14 +6,20 @@ ghost use lib.ListN.{length, getD, set};
 ghost use Rattle.lent.specs.Lent.{was, left};
 ghost use Rattle.netlist.specs.Graph.{WellFormed};
 ghost use Rattle.netlist.specs.Settle.{readsIn};
-ghost use Rattle.netlist.specs.Table.{signalLimit, rowLength, signalCount, IsTable, sourceOf, gateOf};
-ghost use Rattle.toposort.specs.Reading.{asRead, readAt, placeCount, firstMark};
+ghost use Rattle.netlist.specs.Table.{signalLimit, signalCount, IsTable, sourceOf, gateOf};
+ghost use Rattle.toposort.specs.Tally.{doneMark};
+ghost use Rattle.toposort.specs.Reading.{asRead, readAt, headOf, placeCount, firstMark};
 ghost use Rattle.toposort.specs.Answer.{OrderOrLoop};
 ghost use Rattle.toposort.specs.Search.{searchIn, searchOut, stackIn, stackWas, withBest, cutTo};
 ghost use Rattle.toposort.specs.Components.{Fresh, IsTop, TopReady, Above, Components, Wants, Moved, Least};
 use netlist::ROW;
 use netlist::SIGNAL_LIMIT;
 use netlist::SLICE_SIGNALS;
+
+// The mark of an open signal whose six reads are done, and the mark of a done one.
+const LAST_MARK: u8 = 7;
+
+const DONE_MARK: u8 = 8;
 
 // The answer of the search for loops: the smallest signal on one, or none, with an order.
 pub enum Sorted {
@@ -86,11 +92,11 @@ fn read_at(table: &[u16], n: usize, x: usize, i: usize) -> Read
 // The mark of signal x when it is opened, past the places that its gate doesn't have.
 fn first_mark(table: &[u16], n: usize, x: usize) -> u8
     requires { ⌜ IsTable n (now table) × (x < signalCount n) ⌝ }
-    ensures { λ r. ⌜ r ≡ firstMark n (getD (was table) (rowLength * x) 0) ⌝ }
+    ensures { λ r. ⌜ r ≡ firstMark n (headOf (was table) x) ⌝ }
 {
     let head = wide16(table[ROW * x]);
     let places = place_count(n, head);
-    (7 - places) as u8
+    LAST_MARK - places as u8
 }
 
 // Where the search stands: the next root to try, how many signals are open, how many are on the stack, how many components
@@ -135,7 +141,7 @@ fn next_turn(
     let last = p.count - 1;
     let head = wide16(heads[last]);
     let mark = marks[top];
-    if mark == 7 {
+    if mark == LAST_MARK {
         let at = wide16(pos[top]);
         if at == head {
             return Turn::Close(at);
@@ -208,12 +214,12 @@ fn close_top(
 ) -> Scan
     requires { ⌜ (top < length (now marks)) × (p .done < length (now order)) ⌝ }
     requires { ⌜ (top < signalLimit) × (p .done < signalLimit) × (0 < p .depth) ⌝ }
-    ensures { λ _. ⌜ (left marks ≡ set (was marks) top 8) × (left order ≡ set (was order) (p .done) top) ⌝ }
+    ensures { λ _. ⌜ (left marks ≡ set (was marks) top doneMark) × (left order ≡ set (was order) (p .done) top) ⌝ }
     ensures { λ r. ⌜ r ≡ cutTo p len count ⌝ }
 {
     let depth = p.depth;
     let done = p.done;
-    marks[top] = 8;
+    marks[top] = DONE_MARK;
     order[done] = top as u16;
     let mut q = p;
     q.depth = depth - 1;
@@ -225,7 +231,7 @@ fn close_top(
 
 // The top's read is done: its mark rises, and best is the smallest signal now known to be on a loop.
 fn raise_top(marks: &mut [u8], p: Scan, top: usize, best: usize) -> Scan
-    requires { ⌜ (top < length (now marks)) × (top < signalLimit) × (getD (now marks) top 0 < 8) ⌝ }
+    requires { ⌜ (top < length (now marks)) × (top < signalLimit) × (getD (now marks) top 0 < doneMark) ⌝ }
     ensures { λ r. ⌜ (left marks ≡ set (was marks) top (getD (was marks) top 0 + 1)) × (r ≡ withBest p best) ⌝ }
 {
     marks[top] = marks[top] + 1;

@@ -1,4 +1,5 @@
 -- `toposort::first_mark` meets its contract. Assumes nothing.
+use Prim.Native.Nat.{_≤_}
 use native.Mathlib.Omega.{arith}
 use Rattle.toposort.proofs.Reading.{places-most}
 use borrow.Author.Needs.{needs}
@@ -20,11 +21,15 @@ wide16-requires c κs = search needs
 place-count-requires : tie.Need-place-count-requires
 place-count-requires c κs = search needs
 
-sub-result : tie.Need-sub-result
-sub-result c = omega (arith, c .place-count .ensures, places-most (c .before .before .before .before .args .n) (c .before .wide16 .result))
+-- the gate has at most six places
+few : (c : tie.After-place-count) → c .place-count .result ≤ 6
+few c = omega (arith, c .place-count .ensures, places-most (c .before .before .before .before .args .n) (c .before .wide16 .result))
 
 cast-result : tie.Need-cast-result
-cast-result c = search needs
+cast-result c = omega (arith, few c)
+
+sub-result : tie.Need-sub-result
+sub-result c = omega (arith, few c)
 
 returns : tie.Need-returns
 returns c = rw (c .place-count .ensures, c .before .wide16 .ensures)
@@ -38,6 +43,6 @@ first-mark-spec =
     shared-slice-read-wide16
     wide16-requires
     place-count-requires
-    sub-result
     cast-result
+    sub-result
     returns)

@@ -3,15 +3,15 @@ use Prim.Native.Nat.{_-_, _<_}
 use mathlib.Core.Path.{_≡_, sym, _∙_}
 use native.Mathlib.Omega.{arith}
 use denote.Ref.{now}
-use Rattle.toposort.specs.Reading.{placeCount}
-use Rattle.toposort.proofs.Reading.{headOf, counted-source, other-source}
+use Rattle.toposort.specs.Reading.{headOf, placeCount}
+use Rattle.toposort.proofs.Reading.{counted-source, other-source}
 use borrow.Author.Needs.{needs}
 use Rattle.toposort.proofs.read_at.Statement.{statement}
 use Rattle.toposort.proofs.read_at.Tie as tie
 
 -- what the code counts is what the head says
 counted : (c : tie.After-place-count) → let a = c .before .before .before .before .args in
-    c .place-count .result ≡ placeCount (a .n) (headOf (now (a .table)) (a .n) (a .x))
+    c .place-count .result ≡ placeCount (a .n) (headOf (now (a .table)) (a .x))
 counted c = rw (c .before .wide16 .ensures) at (c .place-count .ensures)
 
 mul-at : tie.Need-mul-at
@@ -54,7 +54,7 @@ returns : tie.Need-returns
 returns c =
     let a = c .before .before .before .before in
     let b = a .before .before .before .before .args in
-    let h : 5 - b .i < placeCount (b .n) (headOf (now (b .table)) (b .n) (b .x)) = omega (arith, counted a, c .before .before .before .if1 .taken) in
+    let h : 5 - b .i < placeCount (b .n) (headOf (now (b .table)) (b .x)) = omega (arith, counted a, c .before .before .before .if1 .taken) in
     c .read-of .ensures ∙ rw (c .before .wide162 .ensures) (sym (counted-source (now (b .table)) (b .n) (b .x) (5 - b .i) h))
 
 returns-2 : tie.Need-returns-2

@@ -7,6 +7,7 @@ use lib.ListN.{length, getD}
 use denote.Ref.{now}
 use Rattle.toposort.specs.declared.Turn.{Turn}
 use Rattle.netlist.specs.Table.{signalLimit, signalCount, gateOf}
+use Rattle.toposort.specs.Tally.{doneMark}
 use Rattle.toposort.specs.Search.{Search, stackIn}
 use Rattle.toposort.specs.Components.{TopReady, Wants}
 use Rattle.toposort.proofs.Components.{order-room, ready, above-read}
@@ -48,7 +49,7 @@ may-close b =
 
 -- its mark can rise
 may-raise : (b : tie.Start) → let a = b .args in
-    (a .top < length (now (a .marks))) × (a .top < signalLimit) × (getD (now (a .marks)) (a .top) 0 < 8)
+    (a .top < length (now (a .marks))) × (a .top < signalLimit) × (getD (now (a .marks)) (a .top) 0 < doneMark)
 may-raise b = let r = top-ready b in (omega (arith, r), omega (arith, r), r .top-open .left)
 
 next-turn-requires : tie.Need-next-turn-requires
