@@ -2,7 +2,6 @@
 use Prim.Native.Nat.{ℕ, _+_, _-_, _≤_, _<_}
 use mathlib.Core.Path.{_≡_, refl, sym, ap, _∙_, subst}
 use mathlib.Core.Logic.{inl, inr, ⊎-elim}
-use mathlib.Core.List.{List}
 use native.Mathlib.Omega.{arith}
 use native.Mathlib.Decide.{decLt}
 use lib.ListN.{length, getD, set}
@@ -14,7 +13,7 @@ use Rattle.netlist.specs.Settle.{readsIn}
 use Rattle.toposort.specs.declared.Scan.{Scan}
 use Rattle.toposort.specs.Tally.{lastMark, doneMark}
 use Rattle.toposort.specs.Search.{Search, searchOf, withBest, cutTo}
-use Rattle.toposort.specs.Components.{Open, IsTop, On, Closed, Within, Passed, TopReady, Reaches, Above, Listed, Components, Moved}
+use Rattle.toposort.specs.Components.{Open, IsTop, On, Closed, Within, Passed, TopReady, Reaches, Above, Listed, Components}
 use Rattle.netlist.proofs.Order.{depends-more, depends-trans}
 use Rattle.netlist.proofs.Loops.{before-set}
 use Rattle.toposort.proofs.Reading.{place-of}
@@ -56,7 +55,7 @@ merged p = record { next = p .next; depth = p .depth; len = p .len; count = p .c
 abbrev pub passed : Scan → Scan
 passed p = record { next = p .next + 1; depth = p .depth; len = p .len; count = p .count; done = p .done; best = p .best }
 
--- ----
+-- ---- what follows
 
 module _ (g : ℕ → Gate) where
   pub reaches-read : {x y z : ℕ} → Reaches g x y → Reads (readsIn g) y z → Depends (readsIn g) x z
@@ -66,50 +65,6 @@ module _ (g : ℕ → Gate) where
   pub depends-reaches : {x y z : ℕ} → Depends (readsIn g) x y → Reaches g y z → Depends (readsIn g) x z
   depends-reaches d (inl e) = rw e at d
   depends-reaches d (inr e) = depends-trans d e
-
-module _ (g : ℕ → Gate) (N : ℕ) (b : Search) (p : Scan) where
-  open Search b using (marks, order)
-  open Scan p using (done, best)
-
-  pub listed-keep : (x v best′ : ℕ) → x < length marks → (getD marks x 0 ≡ doneMark → ⊥) → (v ≡ doneMark → ⊥) → (best′ ≡ N → best ≡ N)
-      → Listed g N b p → Listed g N (marked b x v) (withBest p best′)
-  listed-keep x v best′ h k w f s =
-      record {
-        counted = s .counted ∙ sym (tally-keep doneMark marks x v k w);
-        finished = λ i l. stored marks x v (getD order i 0) h (λ p q. absurd (k (rw p at (s .finished i l)))) (λ p q. q ∙ s .finished i l);
-        named = λ z e. stored marks x v z h (λ p q. absurd (w (sym q ∙ e))) (λ p q. s .named z (sym q ∙ e));
-        once = s .once;
-        after = λ e. s .after (f e);
-      }
-
-  pub listed-add : (x : ℕ) → x < length marks → (getD marks x 0 ≡ doneMark → ⊥) → done < length order
-      → (best ≡ N → (y : ℕ) → Reads (readsIn g) x y → getD marks y 0 ≡ doneMark)
-      → (len′ count′ : ℕ) → Listed g N b p → Listed g N (finished b p x) (cutTo p len′ count′)
-  listed-add x h k r all _ _ s =
-      record {
-        counted = omega (arith, s .counted, tally-add doneMark marks x h k);
-        finished = λ i l. stored order done x i r
-            (λ p q. rw q (getD-set-same marks x doneMark 0 h))
-            (λ p q. rw q (was-done i (omega arith)));
-        named = λ z e. stored marks x doneMark z h
-            (λ p q. (done, omega arith, getD-set-same order done x 0 r ∙ sym p))
-            (λ p q. more z (before-set order done x done (omega arith) z (s .named z (sym q ∙ e))));
-        once = λ i j l m e. stored order done x j r
-            (λ p q. stored order done x i r (λ p′ q′. omega arith) (λ p′ q′. k (rw (sym (sym q′ ∙ e ∙ q)) (s .finished i (omega arith)))))
-            (λ p q. stored order done x i r (λ p′ q′. omega arith) (λ p′ q′. s .once i j l (omega arith) (sym q′ ∙ e ∙ q)));
-        after = λ b i y l e. stored order done x i r
-            (λ p q. rw p (before-set order done x done (omega arith) y (s .named y (all b y (reads-at i x y q e)))))
-            (λ p q. before-set order done x i (omega arith) y (s .after b i y (omega arith) (reads-at i (getD order i 0) y q e)));
-      }
-    where
-      was-done : (i : ℕ) → i < done → getD (set marks x doneMark) (getD order i 0) 0 ≡ doneMark
-      was-done i l = stored marks x doneMark (getD order i 0) h (λ p q. q) (λ p q. q ∙ s .finished i l)
-
-      more : (y : ℕ) → Before (set order done x) done y → Before (set order done x) (done + 1) y
-      more y b = (b .0, omega (arith, b .1), b .2)
-
-      reads-at : (i z y : ℕ) → getD (set order done x) i 0 ≡ z → Reads (readsIn g) (getD (set order done x) i 0) y → Reads (readsIn g) z y
-      reads-at i z y q e = subst (λ (w : ℕ). Reads (readsIn g) w y) q e
 
 module _ {g : ℕ → Gate} {N : ℕ} {b : Search} {p : Scan} (s : Components g N b p) where
   open Search b using (marks, pos, stack, heads, path, order)
@@ -154,6 +109,47 @@ module _ {g : ℕ → Gate} {N : ℕ} {b : Search} {p : Scan} (s : Components g 
   closed-from : (x y : ℕ) → ((z : ℕ) → Reads (readsIn g) x z → Closed b p z) → Depends (readsIn g) x y → Closed b p y
   closed-from x y f (direct r) = f y r
   closed-from x y f (through {y = z} r d) = closed-from z y (λ w q. s .closed z w (f z r) q) d
+
+  -- the order so far, where a mark is set that isn't the one of a done signal, and where x is done
+  pub listed-keep : (x v best′ : ℕ) → x < length marks → (getD marks x 0 ≡ doneMark → ⊥) → (v ≡ doneMark → ⊥) → (best′ ≡ N → best ≡ N)
+      → Listed g N (marked b x v) (withBest p best′)
+  listed-keep x v best′ h k w f =
+      record {
+        counted = s .listed .counted ∙ sym (tally-keep doneMark marks x v k w);
+        finished = λ i l. stored marks x v (getD order i 0) h (λ p q. absurd (k (rw p at (s .listed .finished i l)))) (λ p q. q ∙ s .listed .finished i l);
+        named = λ z e. stored marks x v z h (λ p q. absurd (w (sym q ∙ e))) (λ p q. s .listed .named z (sym q ∙ e));
+        once = s .listed .once;
+        after = λ e. s .listed .after (f e);
+      }
+
+  pub listed-add : (x : ℕ) → x < length marks → (getD marks x 0 ≡ doneMark → ⊥) → done < length order
+      → (best ≡ N → (y : ℕ) → Reads (readsIn g) x y → getD marks y 0 ≡ doneMark)
+      → (len′ count′ : ℕ) → Listed g N (finished b p x) (cutTo p len′ count′)
+  listed-add x h k r all _ _ =
+      record {
+        counted = omega (arith, s .listed .counted, tally-add doneMark marks x h k);
+        finished = λ i l. stored order done x i r
+            (λ p q. rw q (getD-set-same marks x doneMark 0 h))
+            (λ p q. rw q (was-done i (omega arith)));
+        named = λ z e. stored marks x doneMark z h
+            (λ p q. (done, omega arith, getD-set-same order done x 0 r ∙ sym p))
+            (λ p q. more z (before-set order done x done (omega arith) z (s .listed .named z (sym q ∙ e))));
+        once = λ i j l m e. stored order done x j r
+            (λ p q. stored order done x i r (λ p′ q′. omega arith) (λ p′ q′. k (rw (sym (sym q′ ∙ e ∙ q)) (s .listed .finished i (omega arith)))))
+            (λ p q. stored order done x i r (λ p′ q′. omega arith) (λ p′ q′. s .listed .once i j l (omega arith) (sym q′ ∙ e ∙ q)));
+        after = λ b i y l e. stored order done x i r
+            (λ p q. rw p (before-set order done x done (omega arith) y (s .listed .named y (all b y (reads-at i x y q e)))))
+            (λ p q. before-set order done x i (omega arith) y (s .listed .after b i y (omega arith) (reads-at i (getD order i 0) y q e)));
+      }
+    where
+      was-done : (i : ℕ) → i < done → getD (set marks x doneMark) (getD order i 0) 0 ≡ doneMark
+      was-done i l = stored marks x doneMark (getD order i 0) h (λ p q. q) (λ p q. q ∙ s .listed .finished i l)
+
+      more : (y : ℕ) → Before (set order done x) done y → Before (set order done x) (done + 1) y
+      more y b = (b .0, omega (arith, b .1), b .2)
+
+      reads-at : (i z y : ℕ) → getD (set order done x) i 0 ≡ z → Reads (readsIn g) (getD (set order done x) i 0) y → Reads (readsIn g) z y
+      reads-at i z y q e = subst (λ (w : ℕ). Reads (readsIn g) w y) q e
 
   -- the order has room for one more signal
   pub order-room : (x : ℕ) → x < N → (getD marks x 0 ≡ doneMark → ⊥) → done < length order

@@ -3,7 +3,7 @@ use Prim.Native.Nat.{ℕ, suc, _+_, _-_, _≤_, _<_}
 use mathlib.Core.Path.{_≡_, sym, ap, _∙_}
 use mathlib.Core.Logic.{_⊎_, inl, inr, ⊎-elim}
 use native.Mathlib.Omega.{arith}
-use lib.ListN.{length, getD, set, length-set}
+use lib.ListN.{length, getD, length-set}
 use Rattle.netlist.specs.declared.Gate.{Gate}
 use Rattle.toposort.specs.declared.Read.the-variants.{Signal}
 use Rattle.netlist.specs.Graph.{Reads, Loop, Before}
@@ -14,8 +14,8 @@ use Rattle.toposort.specs.declared.Scan.{Scan}
 use Rattle.toposort.specs.Search.{Search, withBest, cutTo}
 use Rattle.toposort.specs.Components.{Open, IsTop, On, Closed, Within, Passed, Reaches, Components, Moved}
 use Rattle.toposort.proofs.Tally.{same-or-not, stored, tally-keep, room-less}
-use Rattle.toposort.proofs.Components.{below-or-not, marked, finished, merged, reaches-read, depends-reaches, listed-keep, listed-add}
-use Rattle.toposort.proofs.Components.{on-or-not, same-place, closed-up, closed-down, inside, stack-on, on-seen, reach-on}
+use Rattle.toposort.proofs.Components.{below-or-not, marked, finished, merged, reaches-read, depends-reaches}
+use Rattle.toposort.proofs.Components.{on-or-not, same-place, closed-up, closed-down, inside, stack-on, on-seen, reach-on, listed-keep, listed-add}
 use Rattle.toposort.proofs.Components.{order-room, closed-done, passed-read, judged-on, top-on, top-open, top-below, path-le}
 use Rattle.toposort.proofs.Components.{heads-le, count-some, reach-top, top-loop}
 
@@ -71,8 +71,7 @@ module _ {g : ℕ → Gate} {N : ℕ} {b : Search} {p : Scan} (s : Components g 
         judged = λ x c p. omega (arith, s .judged x (down c) p);
         best-le = omega (arith, s .best-le);
         best-loop = bl;
-        listed = listed-keep g N b p top (m + 1) best′ h (λ w. omega (arith, o .left)) (λ w. omega (arith, o .left))
-            (λ w. omega (arith, s .best-le)) (s .listed);
+        listed = listed-keep s top (m + 1) best′ h (λ w. omega (arith, o .left)) (λ w. omega (arith, o .left)) (λ w. omega (arith, s .best-le));
       },
       omega (arith, room-less marks top (m + 1) h (omega arith) (omega (arith, o .left))),
     )
@@ -219,8 +218,7 @@ module _ {g : ℕ → Gate} {N : ℕ} {b : Search} {p : Scan} (s : Components g 
         judged = λ x c d. was c (λ c′. s .judged x c′ d) (λ o k. judged-on s x o (past o k) d);
         best-le = s .best-le;
         best-loop = s .best-loop;
-        listed = listed-add g N b p top h (λ w. omega arith) (order-room s top (top-below s t) (λ w. omega arith)) top-after
-            len′ count′ (s .listed);
+        listed = listed-add s top h (λ w. omega arith) (order-room s top (top-below s t) (λ w. omega arith)) top-after len′ count′;
       },
       omega (arith, room-less marks top doneMark h (omega arith) (omega arith)),
     )

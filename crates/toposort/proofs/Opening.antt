@@ -16,7 +16,7 @@ use Rattle.toposort.specs.declared.Scan.{Scan}
 use Rattle.toposort.specs.Search.{Search}
 use Rattle.toposort.specs.Components.{Open, Fresh, On, Closed, Passed, Above, Components, Moved, Least}
 use Rattle.toposort.proofs.Tally.{same-or-not, stored, in-list, tally-less, tally-le, tally-all, tally-none, room-less}
-use Rattle.toposort.proofs.Components.{below-or-not, opened, oneMore, passed, listed-keep, inside, stack-on, on-seen}
+use Rattle.toposort.proofs.Components.{below-or-not, opened, oneMore, passed, inside, stack-on, on-seen, listed-keep}
 use Rattle.toposort.proofs.Components.{closed-done, empty, depth-le, count-le}
 
 module _ {g : ℕ → Gate} {N : ℕ} {b : Search} {p : Scan} (s : Components g N b p) where
@@ -104,7 +104,7 @@ module _ {g : ℕ → Gate} {N : ℕ} {b : Search} {p : Scan} (s : Components g 
         judged = λ x c d. s .judged x (closed-back c) d;
         best-le = s .best-le;
         best-loop = s .best-loop;
-        listed = listed-keep g N b p y m best hm (λ w. omega arith) (λ w. omega arith) (λ w. w) (s .listed);
+        listed = listed-keep s y m best hm (λ w. omega arith) (λ w. omega arith) (λ w. w);
       },
       omega (arith, room-less marks y m hm (omega arith) (omega arith)),
     )

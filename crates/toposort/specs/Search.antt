@@ -14,6 +14,7 @@ pub record Search : Type 0 where
   pub path : List ℕ
   pub order : List ℕ
 
+-- the buffers by their elements
 abbrev pub searchOf : List ℕ → List ℕ → List ℕ → List ℕ → List ℕ → List ℕ → Search
 searchOf marks pos stack heads path order =
     record { marks = marks; pos = pos; stack = stack; heads = heads; path = path; order = order }

@@ -1,6 +1,6 @@
 // One path-based search for strongly connected components over a gate table, with no recursion.
 ghost use mathlib.Core.Path.{_≡_};
-ghost use Prim.Native.Nat.{_+_, _*_, _-_, _≤_, _<_};
+ghost use Prim.Native.Nat.{_+_, _≤_, _<_};
 ghost use mathlib.Core.Logic.{_⊎_};
 ghost use lib.ListN.{length, getD, set};
 ghost use Rattle.lent.specs.Lent.{was, left};
