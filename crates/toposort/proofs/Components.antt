@@ -229,7 +229,6 @@ module _ {g : ℕ → Gate} {N : ℕ} {b : Search} {p : Scan} (s : Components g 
     pub ready : TopReady N b p top
     ready =
         record {
-          small = s .small;
           marks-sized = s .sized .marks;
           pos-sized = s .sized .pos;
           stack-sized = s .sized .stack;

@@ -31,7 +31,6 @@ module _ {g : ℕ → Gate} {N : ℕ} {b : Search} {p : Scan} (s : Components g 
     raise m best′ l e d less-or-same bl new = (
       record {
         bounded = s .bounded;
-        small = s .small;
         sized = record {
           marks = length-set marks top (m + 1) ∙ s .sized .marks;
           pos = s .sized .pos;
@@ -115,7 +114,6 @@ module _ {g : ℕ → Gate} {N : ℕ} {b : Search} {p : Scan} (s : Components g 
     merge y r o below = (
       record {
         bounded = s .bounded;
-        small = s .small;
         sized = s .sized;
         next-le = s .next-le;
         ended = s .ended;
@@ -169,7 +167,6 @@ module _ {g : ℕ → Gate} {N : ℕ} {b : Search} {p : Scan} (s : Components g 
     retire len′ count′ l e len-le top-le fewer keeps some′ only cut = (
       record {
         bounded = s .bounded;
-        small = s .small;
         sized = record {
           marks = length-set marks top doneMark ∙ s .sized .marks;
           pos = s .sized .pos;

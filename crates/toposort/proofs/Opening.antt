@@ -8,7 +8,6 @@ use lib.Seq.{getD-set-same, getD-set-other}
 use Rattle.netlist.specs.declared.Gate.{Gate}
 use Rattle.netlist.specs.Graph.{WellFormed, Before}
 use Rattle.netlist.specs.Settle.{readsIn}
-use Rattle.netlist.specs.Table.{signalLimit}
 use Rattle.toposort.specs.declared.Read.the-variants.{Signal}
 use Rattle.toposort.specs.Tally.{doneMark}
 use Rattle.toposort.specs.Reading.{readAt}
@@ -32,7 +31,6 @@ module _ {g : ℕ → Gate} {N : ℕ} {b : Search} {p : Scan} (s : Components g 
     push m some few none l into = (
       record {
         bounded = s .bounded;
-        small = s .small;
         sized = record {
           marks = length-set marks y m ∙ s .sized .marks;
           pos = length-set pos y len ∙ s .sized .pos;
@@ -203,7 +201,6 @@ module _ {g : ℕ → Gate} {N : ℕ} {b : Search} {p : Scan} (s : Components g 
   pass l d e = (
     record {
       bounded = s .bounded;
-      small = s .small;
       sized = s .sized;
       next-le = omega arith;
       ended = λ _. e;
@@ -247,12 +244,11 @@ module _ {g : ℕ → Gate} {N : ℕ} {b : Search} {p : Scan} (s : Components g 
       full = s .listed .counted ∙ tally-all doneMark marks (λ x l. closed-done s x (shut x (omega (arith, s .sized .marks)))) ∙ s .sized .marks
 
 -- the state at the start
-pub start : (g : ℕ → Gate) (N : ℕ) (b : Search) → WellFormed (readsIn g) N → N ≤ signalLimit → Fresh N b
+pub start : (g : ℕ → Gate) (N : ℕ) (b : Search) → WellFormed (readsIn g) N → Fresh N b
     → Components g N b (record { next = 0; depth = 0; len = 0; count = 0; done = 0; best = N })
-start g N b bounded small (sized, unseen) =
+start g N b bounded (sized, unseen) =
     record {
       bounded = bounded;
-      small = small;
       sized = sized;
       next-le = zero-le;
       ended = λ _. refl;

@@ -11,7 +11,6 @@ use Rattle.toposort.specs.declared.Turn.{Turn}
 use Rattle.toposort.specs.declared.Turn.the-variants.{Close, Leave, Raise, Open as OpenUnseen, Merge, Meet}
 use Rattle.netlist.specs.Graph.{Reads, Depends, Loop, WellFormed, Before, Ordered}
 use Rattle.netlist.specs.Settle.{readsIn}
-use Rattle.netlist.specs.Table.{signalLimit}
 use Rattle.toposort.specs.Reading.{readAt}
 use Rattle.toposort.specs.Tally.{lastMark, doneMark, tally, room}
 use Rattle.toposort.specs.Search.{Search}
@@ -105,7 +104,6 @@ module _ (N : ℕ) (b : Search) (p : Scan) where
   abbrev pub TopReady : ℕ → Type 0
   TopReady top =
       record {
-        small : N ≤ signalLimit;
         marks-sized : length marks ≡ N;
         pos-sized : length pos ≡ N;
         stack-sized : length stack ≡ N;
@@ -143,7 +141,6 @@ module _ (g : ℕ → Gate) (N : ℕ) (b : Search) (p : Scan) where
   -- the state of the search over N signals; `best` is the smallest signal known to be on a loop, or N
   pub record Components : Type 0 where
     pub bounded : WellFormed (readsIn g) N
-    pub small : N ≤ signalLimit
     pub sized : Sized N b
     pub next-le : next ≤ N
     pub ended : next ≡ N → depth ≡ 0

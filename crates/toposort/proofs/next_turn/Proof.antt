@@ -135,7 +135,7 @@ returns-3 : tie.Need-returns-3
 returns-3 c = let a = y-place (c .before) in (y-below a, top-reads a, c .if3 .taken)
 
 mul-wide16-3 : tie.Need-mul-wide16-3
-mul-wide16-3 c = let a = y-place (c .before) in omega (arith, y-below a, begun a .pre .1 .small)
+mul-wide16-3 c = let a = y-place (c .before) in omega (arith, y-below a, begun a .pre .0 .0 .0)
 
 shared-slice-read-wide16-3 : tie.Need-shared-slice-read-wide16-3
 shared-slice-read-wide16-3 c = let a = y-place (c .before .before) in omega (arith, y-below a, begun a .pre .1 .pos-sized)

@@ -51,7 +51,7 @@ cast-heads : tie.Need-cast-heads
 cast-heads c = search needs
 
 mul-heads : tie.Need-mul-heads
-mul-heads c = omega (arith, has-room (start c), start c .pre .0 .small)
+mul-heads c = omega (arith, has-room (start c), start c .pre .1 .0 .0 .0)
 
 slice-write-heads : tie.Need-slice-write-heads
 slice-write-heads c = omega (arith, has-room (start c), start c .pre .0 .sized .heads)
@@ -60,19 +60,19 @@ cast-path : tie.Need-cast-path
 cast-path c = search needs
 
 mul-path : tie.Need-mul-path
-mul-path c = omega (arith, has-room (start c), start c .pre .0 .small)
+mul-path c = omega (arith, has-room (start c), start c .pre .1 .0 .0 .0)
 
 slice-write-path : tie.Need-slice-write-path
 slice-write-path c = omega (arith, has-room (start c), start c .pre .0 .sized .path)
 
 add-q : tie.Need-add-q
-add-q c = omega (arith, has-room (start c), start c .pre .0 .small)
+add-q c = omega (arith, has-room (start c), start c .pre .1 .0 .0 .0)
 
 add-q-2 : tie.Need-add-q-2
 add-q-2 c = search needs
 
 add-q-3 : tie.Need-add-q-3
-add-q-3 c = omega (arith, has-room (start c), start c .pre .0 .small)
+add-q-3 c = omega (arith, has-room (start c), start c .pre .1 .0 .0 .0)
 
 same-length : tie.Need-same-length
 same-length c = search needs

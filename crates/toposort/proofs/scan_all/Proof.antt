@@ -25,7 +25,7 @@ mul-size c = omega arith
 loop-holds : tie.Need-loop-holds Inv-loop μ-loop
 loop-holds c =
     let b = c .before .before .before .before .before .before .before in
-    start _ _ _ (b .pre .0 .1) (b .pre .0 .0 .0) (b .pre .1)
+    start _ _ _ (b .pre .0 .1) (b .pre .1)
 
 scan-step-requires : tie.Need-scan-step-requires Inv-loop μ-loop
 scan-step-requires c κs =

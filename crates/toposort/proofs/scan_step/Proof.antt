@@ -14,7 +14,7 @@ sub-last : tie.Need-sub-last
 sub-last c = search needs
 
 mul-wide16 : tie.Need-mul-wide16
-mul-wide16 c = let b = begin (c .before) in omega (arith, b .pre .0 .small, b .pre .0 .placed .fits, depth-le (b .pre .0))
+mul-wide16 c = let b = begin (c .before) in omega (arith, b .pre .1 .0 .0, b .pre .0 .placed .fits, depth-le (b .pre .0))
 
 slice-read-wide16 : tie.Need-slice-read-wide16
 slice-read-wide16 c = let b = begin (c .before .before) in omega (arith, b .pre .0 .sized .path, b .pre .0 .placed .fits, depth-le (b .pre .0))

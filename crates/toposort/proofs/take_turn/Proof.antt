@@ -45,12 +45,13 @@ may-close : (b : tie.Start) → let a = b .args in
 may-close b =
     let r = top-ready b in
     let h = has-room b in
-    ((omega (arith, r), h), (omega (arith, r), omega (arith, r, b .pre .0 .sized .order), b .pre .1 .2 .0))
+    let small = b .pre .1 .0 .0 in
+    ((omega (arith, r), h), (omega arith, omega (arith, b .pre .0 .sized .order), b .pre .1 .2 .0))
 
 -- its mark can rise
 may-raise : (b : tie.Start) → let a = b .args in
     (a .top < length (now (a .marks))) × (a .top < signalLimit) × (getD (now (a .marks)) (a .top) 0 < doneMark)
-may-raise b = let r = top-ready b in (omega (arith, r), omega (arith, r), r .top-open .left)
+may-raise b = let r = top-ready b in (omega (arith, r), omega (arith, r, b .pre .1 .0 .0), r .top-open .left)
 
 next-turn-requires : tie.Need-next-turn-requires
 next-turn-requires c κs =
