@@ -20,7 +20,7 @@ pub record Open (marks : List ℕ) (x : ℕ) : Type 0 where
   pub seen : 0 < getD marks x 0
   pub left : getD marks x 0 < doneMark
 
--- each buffer has an entry for each of N signals
+-- buffers of N signals: each has an entry a signal
 abbrev pub Sized : ℕ → Search → Type 0
 Sized N b =
     record {
@@ -32,7 +32,7 @@ Sized N b =
       order : length (b .order) ≡ N;
     }
 
--- and none of them is seen
+-- buffers of N signals, none of them seen
 abbrev pub Fresh : ℕ → Search → Type 0
 Fresh N b = Sized N b × ((x : ℕ) → getD (b .marks) x 0 ≡ 0)
 

@@ -1,6 +1,6 @@
--- The buffers of the search, with an entry a signal. A mark is as in `Tally`. Signals are put on `stack` as they are opened, at the place
--- `pos` says; a component that is closed is cut off the end of the stack. `heads` has the places of the stack where its components begin,
--- as far as they are known, `path` has the open signals, and `order` the done ones.
+-- The buffers of the search, each with an entry a signal. A mark is as in `Tally`. Signals are put on `stack` as they are opened, at the
+-- place `pos` says; a component that is closed is cut off the end of the stack. `heads` has the places of the stack where its
+-- components begin, as far as they are known, `path` has the open signals, and `order` the done ones.
 use mathlib.Core.List.{List, []}
 use Prim.Native.Nat.{ℕ, _+_, _-_}
 use Rattle.lent.specs.Lent.{Held, Lent, was, left}
