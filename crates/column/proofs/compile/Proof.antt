@@ -30,7 +30,7 @@ order-or-loop-requires c κs =
     let l = c .before .before .before .before in
     let b = l .before .before .before .before .before in
     let f = sound-file (b .args .file .now) (b .pre .0) in
-    ((omega (arith, f .slices-fit), l .lower .kept .1 .1 .1 .0 ∙ b .pre .1 .0, b .pre .1 .1), closed l)
+    (((omega (arith, f .slices-fit), l .lower .kept .1 .1 .1 .0 ∙ b .pre .1 .0), b .pre .1 .1), closed l)
 
 same-length : tie.Need-same-length
 same-length c = search needs
