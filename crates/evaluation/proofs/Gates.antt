@@ -6,29 +6,29 @@ use native.Mathlib.Omega.{arith}
 use borrow.Author.Tests.{lt-ltb, le-ltb, eq-eqb, ne-eqb}
 use lib.ListN.{getD}
 use Rattle.netlist.specs.Rule.{Env, bitAt, choose, valueOf, applyGate, ruleOf}
-use Rattle.netlist.specs.Table.{sourceOf, gateWith, gateOf}
+use Rattle.netlist.specs.Table.{rowLength, sourceOf, gateWith, gateOf}
 use Rattle.evaluation.specs.Codes.{numberOn}
 
 module _ (e : Env) (values table : List ℕ) (n x : ℕ) where
   abbrev head : ℕ
-  head = getD table (7 * x) 0
+  head = getD table (rowLength * x) 0
 
   -- the bit on source i of the row
   abbrev on : ℕ → ℕ
-  on i = valueOf (e .inputs) values (sourceOf (getD table (7 * x + i) 0))
+  on i = valueOf (e .inputs) values (sourceOf (getD table (rowLength * x + i) 0))
 
   abbrev rule : ℕ
   rule = ruleOf e values (gateOf table n x)
 
   -- the six sources of a look-up table as a row of codes
-  pub rule-lut : head < 4 * n → rule ≡ bitAt (getD (e .contents) head 0) (numberOn (valueOf (e .inputs) values) table (7 * x + 1) 6)
+  pub rule-lut : head < 4 * n → rule ≡ bitAt (getD (e .contents) head 0) (numberOn (valueOf (e .inputs) values) table (rowLength * x + 1) 6)
   unfolding ruleOf applyGate gateWith gateOf numberOn
   rule-lut h =
-      let p2 : suc (7 * x + 1) ≡ 7 * x + 2 = omega arith in
-      let p3 : suc (7 * x + 2) ≡ 7 * x + 3 = omega arith in
-      let p4 : suc (7 * x + 3) ≡ 7 * x + 4 = omega arith in
-      let p5 : suc (7 * x + 4) ≡ 7 * x + 5 = omega arith in
-      let p6 : suc (7 * x + 5) ≡ 7 * x + 6 = omega arith in
+      let p2 : suc (rowLength * x + 1) ≡ rowLength * x + 2 = omega arith in
+      let p3 : suc (rowLength * x + 2) ≡ rowLength * x + 3 = omega arith in
+      let p4 : suc (rowLength * x + 3) ≡ rowLength * x + 4 = omega arith in
+      let p5 : suc (rowLength * x + 4) ≡ rowLength * x + 5 = omega arith in
+      let p6 : suc (rowLength * x + 5) ≡ rowLength * x + 6 = omega arith in
       simp (lt-ltb _ _ h, p2, p3, p4, p5, p6)
 
   pub rule-zero : 4 * n ≤ head → head < 8 * n → rule ≡ 0

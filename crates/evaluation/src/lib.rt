@@ -1,11 +1,12 @@
 // The gate table read: the bit on a code, the number on a row of codes, and what a signal's gate gives from a value table.
 ghost use mathlib.Core.Path.{_≡_};
-ghost use Prim.Native.Nat.{_+_, _*_, _/_, _%_, _^_, _≤_, _<_};
+ghost use Prim.Native.Nat.{_+_, _/_, _%_, _^_, _≤_, _<_};
 ghost use lib.ListN.{length, getD};
 ghost use Rattle.lent.specs.Lent.{was};
-ghost use Rattle.netlist.specs.Rule.{env, bitAt, valueOf, ruleOf};
-ghost use Rattle.netlist.specs.Table.{signalLimit, sourceOf, gateOf};
+ghost use Rattle.netlist.specs.Rule.{bitAt, valueOf, ruleOf};
+ghost use Rattle.netlist.specs.Table.{signalCount, IsTable, sourceOf, gateOf};
 ghost use Rattle.evaluation.specs.Codes.{numberOn};
+ghost use Rattle.evaluation.specs.Environment.{envWas};
 
 // The low bit of byte `i`, 0 past the end.
 fn low_bit(bytes: &[u8], i: usize) -> u8
@@ -79,10 +80,10 @@ pub fn gate_value(
     inputs: &[u8],
     values: &[u8],
 ) -> u8
-    requires { ⌜ (32 * n ≤ signalLimit) × (length (now table) ≡ 224 * n) × (x < 32 * n) ⌝ }
-    ensures { λ r. ⌜ r ≡ ruleOf (env (was contents) (was flops) (was inputs)) (was values) (gateOf (was table) n x) ⌝ }
+    requires { ⌜ IsTable n (now table) × (x < signalCount n) ⌝ }
+    ensures { λ r. ⌜ r ≡ ruleOf (envWas contents flops inputs) (was values) (gateOf (was table) n x) ⌝ }
 {
-    let at = 7 * x;
+    let at = netlist::ROW * x;
     let head = table[at] as usize;
     if head < 4 * n {
         let k = number_on(table, at + 1, 6, inputs, values);

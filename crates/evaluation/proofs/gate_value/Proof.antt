@@ -4,6 +4,7 @@ use Prim.Native.Nat.{ℕ, _+_, _*_, _%_}
 use native.Mathlib.Omega.{arith}
 use lib.ListN.{getD}
 use Rattle.netlist.specs.Rule.{Env, env, bitAt}
+use Rattle.netlist.specs.Table.{rowLength}
 use Rattle.evaluation.proofs.Gates.{rule-lut, rule-zero, rule-stored, rule-select, rule-xor, rule-same, choose-zero, choose-other}
 use borrow.Author.Needs.{needs}
 use Rattle.evaluation.proofs.gate_value.Statement.{statement}
@@ -25,7 +26,7 @@ shared-slice-read-head : tie.Need-shared-slice-read-head
 shared-slice-read-head c = search needs
 
 cast-head : tie.Need-cast-head
-cast-head c = omega (arith, c .shared-slice-known6 .given (7 * start c .args .x))
+cast-head c = omega (arith, c .shared-slice-known6 .given (rowLength * start c .args .x))
 
 mul-if1 : tie.Need-mul-if1
 mul-if1 c = search needs
@@ -42,7 +43,7 @@ contents-bit-requires c κs = search needs
 returns : tie.Need-returns
 returns c =
     let s = start (c .before .before .before) in
-    c .contents-bit .ensures ∙ ap (bitAt (getD (s .args .contents .now) (getD (s .args .table .now) (7 * s .args .x) 0) 0)) (c .before .number-on .ensures .0)
+    c .contents-bit .ensures ∙ ap (bitAt (getD (s .args .contents .now) (getD (s .args .table .now) (rowLength * s .args .x) 0) 0)) (c .before .number-on .ensures .0)
     ∙ sym (rule-lut (on s) (s .args .values .now) (s .args .table .now) (s .args .n) (s .args .x) (c .before .before .if1 .taken))
 
 mul-if2 : tie.Need-mul-if2
