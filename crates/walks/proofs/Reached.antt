@@ -15,7 +15,7 @@ use Rattle.netlist.specs.declared.Gate.{Gate}
 use Rattle.netlist.specs.declared.Gate.the-variants.{Lut, ZeroOf, Select, Xor, Same, Stored}
 use Rattle.netlist.specs.Rule.{sourcesOf, signalsIn, readsOf, isInput, anySource, touchesInput, touchesTable}
 use Rattle.netlist.specs.Settle.{isMarked, anyMarked}
-use Rattle.walks.specs.Marked.{sourceReached, tableMarked, touchesMarked}
+use Rattle.walks.specs.Marked.{sourceReached, tableMarked, touchesMarked, gateReached}
 
 -- an "or" of what its two tests say
 pub or-both : {a b a′ b′ : Bool} → a ≡ a′ → b ≡ b′ → (a || b) ≡ (a′ || b′)
@@ -47,8 +47,7 @@ or-last false b c = or-comm b c
 -- what reaches the gate's sources or its table touches the gate or is read by it
 pub reached-by-sources :
     (inputs tables signals : List ℕ) (gate : Gate)
-    → (anySource (sourceReached inputs signals) (sourcesOf gate) || tableMarked tables gate)
-    ≡ (touchesMarked inputs tables gate || anyMarked signals (readsOf gate))
+    → (anySource (sourceReached inputs signals) (sourcesOf gate) || tableMarked tables gate) ≡ gateReached inputs tables signals gate
 unfolding readsOf touchesMarked
 reached-by-sources inputs tables signals gate =
     ap (λ (b : Bool). b || tableMarked tables gate) (sources-split inputs signals (sourcesOf gate))

@@ -6,11 +6,11 @@ use Prim.Native.Nat.{ℕ, suc, _+_, _-_, _*_, _≤_, _<_}
 use native.Mathlib.Omega.{arith}
 use borrow.Author.Tests.{lt-ltb, le-ltb, eq-eqb, ne-eqb}
 use lib.ListN.{getD}
-use Rattle.netlist.specs.Rule.{sourcesOf, readsOf, anySource}
-use Rattle.netlist.specs.Settle.{isMarked, anyMarked}
-use Rattle.netlist.specs.Table.{sourceOf, gateWith, gateOf}
+use Rattle.netlist.specs.Rule.{sourcesOf, anySource}
+use Rattle.netlist.specs.Settle.{isMarked}
+use Rattle.netlist.specs.Table.{rowLength, sourceOf, gateWith, gateOf}
 use Rattle.netlist.specs.declared.Source.{Source}
-use Rattle.walks.specs.Marked.{sourceReached, anyReached, tableMarked, touchesMarked}
+use Rattle.walks.specs.Marked.{sourceReached, anyReached, tableMarked, gateReached}
 use Rattle.walks.proofs.Reached.{reached-by-sources}
 
 -- one more code, before those that are looked at
@@ -24,10 +24,10 @@ any-more f codes i j k more fits =
 
 module _ (changed edited marks table : List ℕ) (n x : ℕ) where
   abbrev head : ℕ
-  head = getD table (7 * x) 0
+  head = getD table (rowLength * x) 0
 
   abbrev reached : Bool
-  reached = touchesMarked changed edited (gateOf table n x) || anyMarked marks (readsOf (gateOf table n x))
+  reached = gateReached changed edited marks (gateOf table n x)
 
   -- the same, by the gate's sources and its table
   abbrev tested : Bool
@@ -38,20 +38,20 @@ module _ (changed edited marks table : List ℕ) (n x : ℕ) where
 
   -- one of the first k sources of the row is reached
   abbrev first : ℕ → Bool
-  first k = anyReached (sourceReached changed marks) table (7 * x + 1) k
+  first k = anyReached (sourceReached changed marks) table (rowLength * x + 1) k
 
-  p2 : suc (7 * x + 1) ≡ 7 * x + 2
+  p2 : suc (rowLength * x + 1) ≡ rowLength * x + 2
   p2 = omega arith
 
-  p3 : suc (7 * x + 2) ≡ 7 * x + 3
+  p3 : suc (rowLength * x + 2) ≡ rowLength * x + 3
   p3 = omega arith
 
   pub reached-lut : head < 4 * n → (first 6 || isMarked edited head) ≡ reached
   unfolding sourcesOf gateWith gateOf anyReached
   reached-lut h =
-      let p4 : suc (7 * x + 3) ≡ 7 * x + 4 = omega arith in
-      let p5 : suc (7 * x + 4) ≡ 7 * x + 5 = omega arith in
-      let p6 : suc (7 * x + 5) ≡ 7 * x + 6 = omega arith in
+      let p4 : suc (rowLength * x + 3) ≡ rowLength * x + 4 = omega arith in
+      let p5 : suc (rowLength * x + 4) ≡ rowLength * x + 5 = omega arith in
+      let p6 : suc (rowLength * x + 5) ≡ rowLength * x + 6 = omega arith in
       so (simp (lt-ltb _ _ h, p2, p3, p4, p5, p6))
 
   pub reached-zero : 4 * n ≤ head → head < 8 * n → isMarked edited (head - 4 * n) ≡ reached
@@ -72,6 +72,6 @@ module _ (changed edited marks table : List ℕ) (n x : ℕ) where
       unfolding sourcesOf gateWith gateOf anyReached
       reached-xor d h = so (simp (le-ltb _ _ a, le-ltb _ _ b, le-ltb _ _ c, ne-eqb _ _ d, eq-eqb _ _ h, p2, or-false))
 
-      pub reached-same : (head ≡ 16 * n → ⊥) → (head ≡ 16 * n + 1 → ⊥) → sourceReached changed marks (sourceOf (getD table (7 * x + 1) 0)) ≡ reached
+      pub reached-same : (head ≡ 16 * n → ⊥) → (head ≡ 16 * n + 1 → ⊥) → sourceReached changed marks (sourceOf (getD table (rowLength * x + 1) 0)) ≡ reached
       unfolding sourcesOf gateWith gateOf
       reached-same d h = so (simp (le-ltb _ _ a, le-ltb _ _ b, le-ltb _ _ c, ne-eqb _ _ d, ne-eqb _ _ h, or-false))

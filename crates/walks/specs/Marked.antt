@@ -7,8 +7,8 @@ use Rattle.netlist.specs.declared.Source.{Source}
 use Rattle.netlist.specs.declared.Source.the-variants.{Constant, Input, Signal}
 use Rattle.netlist.specs.declared.Gate.{Gate}
 use Rattle.netlist.specs.declared.Gate.the-variants.{Lut, ZeroOf, Select, Xor, Same, Stored}
-use Rattle.netlist.specs.Rule.{sourcesOf, anySource}
-use Rattle.netlist.specs.Settle.{isMarked}
+use Rattle.netlist.specs.Rule.{sourcesOf, readsOf, anySource}
+use Rattle.netlist.specs.Settle.{isMarked, anyMarked}
 use Rattle.netlist.specs.Table.{sourceOf}
 
 -- the source is a marked outside input or a marked signal
@@ -34,3 +34,7 @@ tableMarked tables (Stored k) = false
 -- the gate touches the change: it "has a pin it reads driven by that input", or belongs to those contents
 unfoldable pub touchesMarked : List ℕ → List ℕ → Gate → Bool
 touchesMarked inputs tables gate = anySource (sourceReached inputs []) (sourcesOf gate) || tableMarked tables gate
+
+-- the change reaches the gate: it touches the change, or reads a marked signal
+abbrev pub gateReached : List ℕ → List ℕ → List ℕ → Gate → Bool
+gateReached inputs tables signals gate = touchesMarked inputs tables gate || anyMarked signals (readsOf gate)

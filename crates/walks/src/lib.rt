@@ -1,39 +1,20 @@
 // The walks along an order that settle or edit a value table.
 ghost use mathlib.Core.Path.{_≡_};
-ghost use mathlib.Core.Bool.{_||_};
-ghost use Prim.Native.Nat.{_+_, _*_, _≤_, _<_};
-ghost use lib.ListN.{length, take};
+ghost use Prim.Native.Nat.{_+_, _≤_, _<_};
+ghost use lib.ListN.{length};
 ghost use Rattle.lent.specs.Lent.{was, left};
-ghost use Rattle.netlist.specs.Rule.{env, readsOf};
-ghost use Rattle.netlist.specs.Graph.{Ordered};
-ghost use Rattle.netlist.specs.Settle.{readsIn, Settled, isMarked, anyMarked, Edited};
-ghost use Rattle.netlist.specs.Table.{signalLimit, sourceOf, gateOf};
-ghost use Rattle.walks.specs.Marked.{sourceReached, anyReached, touchesMarked};
+ghost use Rattle.netlist.specs.Settle.{Settled, isMarked};
+ghost use Rattle.netlist.specs.Table.{signalCount, IsTable, sourceOf, gateOf, netOf};
+ghost use Rattle.evaluation.specs.Environment.{envWas};
+ghost use Rattle.walks.specs.Marked.{sourceReached, anyReached, gateReached};
+ghost use Rattle.walks.specs.Walks.{Walkable, EditedBy};
+use netlist::ROW;
+use netlist::SIGNAL_LIMIT;
+use netlist::SLICE_NUMBERS;
+use netlist::SLICE_SIGNALS;
 
-// Fills the value table: each signal in the order's turn is set to its rule.
-fn settle_along(
-    table: &[u16],
-    n: usize,
-    order: &[u16],
-    contents: &[u64],
-    flops: &[u8],
-    inputs: &[u8],
-    values: &mut [u8],
-)
-    requires { ⌜ (32 * n ≤ signalLimit) × (length (now table) ≡ 224 * n) × (length (now values) ≡ 32 * n) ⌝ }
-    requires { ⌜ Ordered (readsIn (gateOf (now table) n)) (32 * n) (now order) ⌝ }
-    ensures { λ _. ⌜ Settled (gateOf (was table) n) (32 * n) (env (was contents) (was flops) (was inputs)) (left values) ⌝ }
-{
-    let mut i = 0;
-    while i < order.len() {
-        let x = order[i] as usize;
-        let value = evaluation::gate_value(table, n, x, contents, flops, inputs, values);
-        values[x] = value;
-        i += 1;
-    }
-}
-
-// Fills the value table with the settled signals. The gate table of n slices and an order stand at the front of `net` and `order`.
+// Fills the value table with the settled signals: each in the order's turn is set to its rule. The gate table of n slices and an order stand at the
+// front of `net` and `order`.
 pub fn settle_by(
     net: &[u16],
     n: usize,
@@ -43,21 +24,18 @@ pub fn settle_by(
     inputs: &[u8],
     values: &mut [u8],
 )
-    requires { ⌜ (32 * n ≤ signalLimit) × (224 * n ≤ length (now net)) × (32 * n ≤ length (now order)) × (length (now values) ≡ 32 * n) ⌝ }
-    requires { ⌜ Ordered (readsIn (gateOf (take (224 * n) (now net)) n)) (32 * n) (take (32 * n) (now order)) ⌝ }
-    ensures { λ _. ⌜ Settled (gateOf (take (224 * n) (was net)) n) (32 * n) (env (was contents) (was flops) (was inputs)) (left values) ⌝ }
+    requires { ⌜ Walkable n (now net) (now order) (now values) ⌝ }
+    ensures { λ _. ⌜ Settled (netOf (was net) n) (signalCount n) (envWas contents flops inputs) (left values) ⌝ }
 {
-    let numbers = 224 * n;
-    let signals = 32 * n;
-    settle_along(
-        &net[..numbers],
-        n,
-        &order[..signals],
-        contents,
-        flops,
-        inputs,
-        values,
-    );
+    let table = &net[..SLICE_NUMBERS * n];
+    let turns = &order[..SLICE_SIGNALS * n];
+    let mut i = 0;
+    while i < turns.len() {
+        let x = turns[i] as usize;
+        let value = evaluation::gate_value(table, n, x, contents, flops, inputs, values);
+        values[x] = value;
+        i += 1;
+    }
 }
 
 // A mark that is set; past the end none is.
@@ -103,10 +81,10 @@ fn gate_reached(
     edited: &[u8],
     marks: &[u8],
 ) -> bool
-    requires { ⌜ (32 * n ≤ signalLimit) × (length (now table) ≡ 224 * n) × (x < 32 * n) ⌝ }
-    ensures { λ r. ⌜ r ≡ (touchesMarked (was changed) (was edited) (gateOf (was table) n x) || anyMarked (was marks) (readsOf (gateOf (was table) n x))) ⌝ }
+    requires { ⌜ IsTable n (now table) × (x < signalCount n) ⌝ }
+    ensures { λ r. ⌜ r ≡ gateReached (was changed) (was edited) (was marks) (gateOf (was table) n x) ⌝ }
 {
-    let at = 7 * x;
+    let at = ROW * x;
     let head = table[at] as usize;
     if head < 4 * n {
         let contents = is_marked(edited, head);
@@ -127,39 +105,8 @@ fn gate_reached(
     code_reached(table[at + 1], changed, marks)
 }
 
-// Recomputes what the marked inputs and tables reach, in the order's turn, and nothing else.
-fn edit_along(
-    table: &[u16],
-    n: usize,
-    order: &[u16],
-    contents: &[u64],
-    flops: &[u8],
-    inputs: &[u8],
-    values: &mut [u8],
-    changed: &[u8],
-    edited: &[u8],
-)
-    requires { ⌜ (32 * n ≤ signalLimit) × (length (now table) ≡ 224 * n) × (length (now values) ≡ 32 * n) ⌝ }
-    requires { ⌜ Ordered (readsIn (gateOf (now table) n)) (32 * n) (now order) ⌝ }
-    ensures { λ _. ⌜ Edited (gateOf (was table) n) (32 * n) (env (was contents) (was flops) (was inputs)) (λ x. touchesMarked (was changed) (was edited) (gateOf (was table) n x)) (was values) (left values) ⌝ }
-{
-    let mut marks = [0u8; netlist::SIGNAL_LIMIT];
-    let mut i = 0;
-    while i < order.len() {
-        let x = order[i] as usize;
-        if gate_reached(table, n, x, changed, edited, &marks) {
-            let fresh = evaluation::gate_value(table, n, x, contents, flops, inputs, values);
-            marks[x] = 1;
-            values[x] = fresh;
-        } else {
-            marks[x] = 0;
-        }
-        i += 1;
-    }
-}
-
-// Recomputes what depends on a change of the marked inputs and tables, and nothing else. The inputs and the contents are those after the change; the gate
-// table of n slices and an order stand at the front of `net` and `order`.
+// Recomputes what depends on a change of the marked inputs and tables, in the order's turn, and nothing else. The inputs and the contents are those
+// after the change; the gate table of n slices and an order stand at the front of `net` and `order`.
 pub fn edit_by(
     net: &[u16],
     n: usize,
@@ -171,21 +118,22 @@ pub fn edit_by(
     changed: &[u8],
     edited: &[u8],
 )
-    requires { ⌜ (32 * n ≤ signalLimit) × (224 * n ≤ length (now net)) × (32 * n ≤ length (now order)) × (length (now values) ≡ 32 * n) ⌝ }
-    requires { ⌜ Ordered (readsIn (gateOf (take (224 * n) (now net)) n)) (32 * n) (take (32 * n) (now order)) ⌝ }
-    ensures { λ _. ⌜ Edited (gateOf (take (224 * n) (was net)) n) (32 * n) (env (was contents) (was flops) (was inputs)) (λ x. touchesMarked (was changed) (was edited) (gateOf (take (224 * n) (was net)) n x)) (was values) (left values) ⌝ }
+    requires { ⌜ Walkable n (now net) (now order) (now values) ⌝ }
+    ensures { λ _. ⌜ EditedBy (was net) n (envWas contents flops inputs) (was changed) (was edited) (was values) (left values) ⌝ }
 {
-    let numbers = 224 * n;
-    let signals = 32 * n;
-    edit_along(
-        &net[..numbers],
-        n,
-        &order[..signals],
-        contents,
-        flops,
-        inputs,
-        values,
-        changed,
-        edited,
-    );
+    let table = &net[..SLICE_NUMBERS * n];
+    let turns = &order[..SLICE_SIGNALS * n];
+    let mut marks = [0u8; SIGNAL_LIMIT];
+    let mut i = 0;
+    while i < turns.len() {
+        let x = turns[i] as usize;
+        if gate_reached(table, n, x, changed, edited, &marks) {
+            let fresh = evaluation::gate_value(table, n, x, contents, flops, inputs, values);
+            marks[x] = 1;
+            values[x] = fresh;
+        } else {
+            marks[x] = 0;
+        }
+        i += 1;
+    }
 }

@@ -2,6 +2,7 @@
 use mathlib.Core.Path.{_∙_}
 use Prim.Native.Nat.{_*_}
 use native.Mathlib.Omega.{arith}
+use Rattle.netlist.specs.Table.{rowLength}
 use Rattle.walks.proofs.Reached.{or-both}
 use Rattle.walks.proofs.Rows.{reached-lut, reached-zero, reached-stored, reached-select, reached-xor, reached-same}
 use borrow.Author.Needs.{needs}
@@ -21,7 +22,7 @@ shared-slice-read-head : tie.Need-shared-slice-read-head
 shared-slice-read-head c = search needs
 
 cast-head : tie.Need-cast-head
-cast-head c = omega (arith, c .shared-slice-known5 .given (7 * start c .args .x))
+cast-head c = omega (arith, c .shared-slice-known5 .given (rowLength * start c .args .x))
 
 mul-if1 : tie.Need-mul-if1
 mul-if1 c = search needs

@@ -1,44 +1,108 @@
--- `walks::settle_by` meets its contract: the fronts have their lengths. Assumes nothing.
-use mathlib.Core.Path.{sym}
-use Prim.Native.Nat.{_*_}
-use lib.Seq.{length-take-le}
+-- `walks::settle_by` meets its contract. The loop's invariant: the first i signals of the order have their rules' values. Assumes nothing.
+use Prim.Native.Nat.{_-_, _≤_, _<_}
+use mathlib.Core.Path.{_≡_, sym}
+use native.Mathlib.Omega.{arith}
 use borrow.Author.Needs.{needs}
+use lib.ListN.{length, getD, length-set, take}
+use Rattle.netlist.specs.Rule.{env}
+use Rattle.netlist.specs.Table.{signalCount, gateOf}
+use Rattle.netlist.specs.Invariant.{SettledTo}
+use Rattle.netlist.proofs.Settling.{settle-none, settle-next, settle-all}
+use Rattle.walks.proofs.Place.{place-below, front-table}
 use Rattle.walks.proofs.settle_by.Statement.{statement}
 use Rattle.walks.proofs.settle_by.Tie as tie
 
-mul-numbers : tie.Need-mul-numbers
-mul-numbers c = search needs
+abbrev Inv-loop : tie.InvT-loop
+Inv-loop net n order contents flops inputs values₀ table turns i₀ values i =
+    (i ≤ length turns) × (length values ≡ signalCount n) × SettledTo (gateOf table n) (env contents flops inputs) turns i values
 
-mul-signals : tie.Need-mul-signals
-mul-signals c = search needs
+abbrev μ-loop : tie.MeasureT-loop
+μ-loop net n order contents flops inputs values₀ table turns i₀ values i = length turns - i
 
-slice-aggregate-settle-along : tie.Need-slice-aggregate-settle-along
-slice-aggregate-settle-along c =
-    let s : tie.Start = c .before .before .before .before .before .before .before in
-    sym (length-take-le (224 * s .args .n) (s .args .net .now) (s .pre .0 .1))
+abbrev start : tie.In-loop Inv-loop μ-loop → tie.Start Inv-loop μ-loop
+start c = c .before .before .before .before .before .before .before .before .before .before
 
-slice-aggregate-settle-along-2 : tie.Need-slice-aggregate-settle-along-2
-slice-aggregate-settle-along-2 c = search needs
+-- the turn is one of the netlist's, and so is its signal
+turn :
+    (c : tie.In-loop Inv-loop μ-loop)
+    → let N = signalCount (start c .args .n) in
+    (c .before .loop .i < N) × (getD (take N (start c .args .order .now)) (c .before .loop .i) 0 < N)
+turn c = place-below (start c .pre .ordered) (c .before .loop .i) (search needs)
 
-settle-along-requires : tie.Need-settle-along-requires
-settle-along-requires c κs =
-    let s : tie.Start = c .before .before .before .before .before .before .before .before .before in
-    ((s .pre .0 .0, length-take-le (224 * s .args .n) (s .args .net .now) (s .pre .0 .1), s .pre .0 .3), s .pre .1)
+mul-table : tie.Need-mul-table Inv-loop μ-loop
+mul-table c = search needs
 
-same-length : tie.Need-same-length
+slice-aggregate-table : tie.Need-slice-aggregate-table Inv-loop μ-loop
+slice-aggregate-table c = sym (front-table (c .before .before .before .before .before .before .before .pre) .1)
+
+mul-turns : tie.Need-mul-turns Inv-loop μ-loop
+mul-turns c = search needs
+
+slice-aggregate-turns : tie.Need-slice-aggregate-turns Inv-loop μ-loop
+slice-aggregate-turns c = sym (c .before .before .before .before .before .before .before .before .pre .ordered .size)
+
+loop-holds : tie.Need-loop-holds Inv-loop μ-loop
+loop-holds c =
+    let w = c .before .before .before .before .before .before .before .before .pre in
+    (search needs, w .values, settle-none _ (w .ordered) _ _)
+
+mul-x : tie.Need-mul-x Inv-loop μ-loop
+mul-x c = search needs
+
+shared-slice-read-x : tie.Need-shared-slice-read-x Inv-loop μ-loop
+shared-slice-read-x c = search needs
+
+cast-x : tie.Need-cast-x Inv-loop μ-loop
+cast-x c = omega (arith, turn (c .before))
+
+gate-value-requires : tie.Need-gate-value-requires Inv-loop μ-loop
+gate-value-requires c κs = let k = c .before .before in (front-table (start k .pre), turn k .1)
+
+slice-write-values : tie.Need-slice-write-values Inv-loop μ-loop
+slice-write-values c = omega (arith, turn (c .before .before .before))
+
+add-i : tie.Need-add-i Inv-loop μ-loop
+add-i c = search needs
+
+loop-less : tie.Need-loop-less Inv-loop μ-loop
+loop-less c = search needs
+
+loop-again : tie.Need-loop-again Inv-loop μ-loop
+loop-again c =
+    let k : tie.In-loop Inv-loop μ-loop = c .before .before .before in
+    let l = k .before .loop in (
+      search needs,
+      simp length-set (l .inv .1),
+      rw (c .gate-value .ensures) (settle-next _ (start k .pre .ordered) _ (l .i) (turn k .0) (l .values) (omega arith) (l .inv .2)),
+    )
+
+same-length : tie.Need-same-length Inv-loop μ-loop
 same-length c = search needs
 
-returns : tie.Need-returns
-returns c = search needs
+returns : tie.Need-returns Inv-loop μ-loop
+returns c =
+    let o = c .before .before .before .before .before .before .before .before .before .before .pre .ordered in
+    let l = c .before .loop in
+    settle-all _ o _ (l .i) (omega (arith, o .size)) (l .values) (l .inv .1) (l .inv .2)
 
 pub settle-by-spec : {M : Type 1} → statement M
 settle-by-spec =
     tie.close
     (tie.spec
-    mul-numbers
-    mul-signals
-    slice-aggregate-settle-along
-    slice-aggregate-settle-along-2
-    settle-along-requires
+    Inv-loop
+    μ-loop
+    mul-table
+    slice-aggregate-table
+    mul-turns
+    slice-aggregate-turns
+    loop-holds
+    mul-x
+    shared-slice-read-x
+    cast-x
+    gate-value-requires
+    slice-write-values
+    add-i
+    loop-less
+    loop-again
     same-length
     returns)
