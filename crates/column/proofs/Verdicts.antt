@@ -58,7 +58,7 @@ judged-unique file (loop e b l s) (loop f b′ l′ s′) = ap (Refused 9) (smal
 -- a loaded file is judged
 pub loaded-judged : (file table order : List ℕ) (v : Verdict) → Loaded file table order v → Judged file v
 loaded-judged file table order (Refused k p) l = l
-loaded-judged file table order (Accepted n m) l = l .0
+loaded-judged file table order (Accepted n m) l = l .verdict
 
 -- the records of an accepted file are sound, and no signal of it is on a loop
 pub accepted-sound : (file : List ℕ) {n m : ℕ} → Judged file (Accepted n m) → checkFile file ≡ Sound n m

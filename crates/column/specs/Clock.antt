@@ -3,6 +3,7 @@ use Prim.Native.Nat.{ℕ, suc, _+_, _*_, _/_, _%_, _<_}
 use mathlib.Core.Path.{_≡_}
 use mathlib.Core.List.{List}
 use lib.ListN.{getD}
+use Rattle.lent.specs.Lent.{Lent, was, left}
 use Rattle.netlist.specs.Rule.{Env, env, valueOf}
 use Rattle.netlist.specs.Settle.{Settled}
 use Rattle.netlist.specs.declared.Source.{Source}
@@ -19,6 +20,13 @@ pub record State : Type 0 where
 
 abbrev pub stateOf : List ℕ → List ℕ → State
 stateOf contents flops = record { contents = contents; flops = flops }
+
+-- the state in lent buffers, when a function was called and as it left them
+abbrev pub stateWas : Lent → Lent → State
+stateWas contents flops = stateOf (was contents) (was flops)
+
+abbrev pub stateLeft : Lent → Lent → State
+stateLeft contents flops = stateOf (left contents) (left flops)
 
 -- what the rules take besides the value table: the state and the outside inputs
 abbrev pub envOf : State → List ℕ → Env

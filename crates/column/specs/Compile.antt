@@ -1,7 +1,7 @@
 -- A file compiled: its netlist in the gate table, and the answer of the search for loops.
-use Prim.Native.Nat.{ℕ}
+use Prim.Native.Nat.{ℕ, _≤_}
 use mathlib.Core.List.{List}
-use lib.ListN.{take}
+use lib.ListN.{length, take}
 use Rattle.netlist.specs.Agree.{Agree}
 use Rattle.netlist.specs.Graph.{Ordered}
 use Rattle.toposort.specs.Answer.{OrderOrLoop}
@@ -26,8 +26,15 @@ pub record Compiled (file : List ℕ) (n : ℕ) (table order : List ℕ) (r : So
   pub lowered : Lowered file n table
   pub sorted : OrderOrLoop (gateAt file) (signalCount n) order r
 
--- a file judged and loaded: for an accepted one the gate table and an order stand at the front of the two buffers
+-- what the calls on an accepted file run on: its gate table and a topological order of its signals, at the front of two buffers
+pub record Ready (file : List ℕ) (n m : ℕ) (net order : List ℕ) : Type 0 where
+  pub verdict : Judged file (Accepted n m)
+  pub net-fits : tableLength n ≤ length net
+  pub order-fits : signalCount n ≤ length order
+  pub lowered : Agree (netOf net n) (gateAt file) (signalCount n)
+  pub ordered : Ordered (readsAt file) (signalCount n) (take (signalCount n) order)
+
+-- a file judged and loaded
 abbrev pub Loaded : List ℕ → List ℕ → List ℕ → Verdict → Type 0
-Loaded file table order (Refused k p) = Judged file (Refused k p)
-Loaded file table order (Accepted n m) =
-    Judged file (Accepted n m) × Agree (netOf table n) (gateAt file) (signalCount n) × Ordered (readsAt file) (signalCount n) (take (signalCount n) order)
+Loaded file net order (Refused k p) = Judged file (Refused k p)
+Loaded file net order (Accepted n m) = Ready file n m net order
