@@ -5,15 +5,16 @@ ghost use lib.ListN.{length};
 ghost use Rattle.lent.specs.Lent.{was};
 ghost use Rattle.slicefile.specs.Format.{sliceLimit};
 ghost use Rattle.column.specs.Check.{checkFile};
-ghost use Rattle.column.specs.Clock.{stateOf};
+ghost use Rattle.column.specs.Clock.{stateWas};
 ghost use Rattle.buffers.specs.Buffers.{badState, badLengths, badBytes, badWord, badWords, settleRefusal, editRefusal, badTable};
 use column::Checked;
+use netlist::SLICE_SIGNALS;
 use slicefile::MODE;
 
 // Whether the contents or the flip-flops have another length than n slices take.
 pub fn bad_state(n: usize, contents: &[u64], flops: &[u8]) -> bool
     requires { ⌜ n ≤ sliceLimit ⌝ }
-    ensures { λ r. ⌜ r ≡ badState n (stateOf (was contents) (was flops)) ⌝ }
+    ensures { λ r. ⌜ r ≡ badState n (stateWas contents flops) ⌝ }
 {
     (contents.len() != 4 * n) | (flops.len() != n)
 }
@@ -28,9 +29,9 @@ fn bad_lengths(
     values: &[u8],
 ) -> bool
     requires { ⌜ n ≤ sliceLimit ⌝ }
-    ensures { λ r. ⌜ r ≡ badLengths n m (stateOf (was contents) (was flops)) (was inputs) (was values) ⌝ }
+    ensures { λ r. ⌜ r ≡ badLengths n m (stateWas contents flops) (was inputs) (was values) ⌝ }
 {
-    bad_state(n, contents, flops) | (inputs.len() != m) | (values.len() != 32 * n)
+    bad_state(n, contents, flops) | (inputs.len() != m) | (values.len() != SLICE_SIGNALS * n)
 }
 
 // Whether a byte is neither 0 nor 1.
@@ -91,7 +92,7 @@ pub fn settle_refusal(
     values: &[u8],
 ) -> usize
     requires { ⌜ checkFile (now file) ≡ Checked.Sound n m ⌝ }
-    ensures { λ r. ⌜ r ≡ settleRefusal (was file) (stateOf (was contents) (was flops)) (was inputs) (was values) n m ⌝ }
+    ensures { λ r. ⌜ r ≡ settleRefusal (was file) (stateWas contents flops) (was inputs) (was values) n m ⌝ }
 {
     if bad_lengths(n, m, contents, flops, inputs, values) {
         return 10;
@@ -104,7 +105,8 @@ pub fn settle_refusal(
     0
 }
 
-// The refusal of an edit of a sound file's buffers, whose own argument is bad or not, 0 where there is none.
+// The refusal of an edit of a sound file's buffers, whose own argument is bad or not, 0 where there is none: that of settling, then the values and the
+// argument.
 pub fn edit_refusal(
     bad: bool,
     file: &[u8],
@@ -116,14 +118,14 @@ pub fn edit_refusal(
     values: &[u8],
 ) -> usize
     requires { ⌜ checkFile (now file) ≡ Checked.Sound n m ⌝ }
-    ensures { λ r. ⌜ r ≡ editRefusal bad (was file) (stateOf (was contents) (was flops)) (was inputs) (was values) n m ⌝ }
+    ensures { λ r. ⌜ r ≡ editRefusal bad (was file) (stateWas contents flops) (was inputs) (was values) n m ⌝ }
 {
-    if bad_lengths(n, m, contents, flops, inputs, values) {
-        return 10;
+    let number = settle_refusal(file, n, m, contents, flops, inputs, values);
+    if number != 0 {
+        return number;
     }
-    let bytes = bad_bytes(inputs) | bad_bytes(values);
-    let words = bad_words(file, n, m, contents);
-    if bytes | words | bad {
+    let bytes = bad_bytes(values);
+    if bytes | bad {
         return 11;
     }
     0

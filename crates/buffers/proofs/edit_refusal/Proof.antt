@@ -1,49 +1,28 @@
 -- `buffers::edit_refusal` meets its contract: each `return` is the first refusal whose test passes. Assumes nothing.
-use mathlib.Core.Path.{_∙_, sym}
+use mathlib.Core.Bool.{true, false}
 use borrow.Author.Needs.{needs}
-use Rattle.column.proofs.SoundLaws.{sound-file}
-use Rattle.buffers.specs.Buffers.{editRefusal}
-use Rattle.column.specs.Clock.{stateOf}
-use Rattle.buffers.proofs.Lengths.{Lengths, lengths}
+use Rattle.buffers.proofs.Splits.{edit-first, edit-second}
 use Rattle.buffers.proofs.edit_refusal.Statement.{statement}
 use Rattle.buffers.proofs.edit_refusal.Tie as tie
 
-bad-lengths-requires : tie.Need-bad-lengths-requires
-bad-lengths-requires c κs =
-    let b = c .before .before .before .before .before in
-    sound-file (b .args .file .now) (b .pre) .slices-fit
+settle-refusal-requires : tie.Need-settle-refusal-requires
+settle-refusal-requires c κs = search needs
 
 returns : tie.Need-returns
-unfolding editRefusal
-returns c = simp (← c .before .bad-lengths .ensures, c .if1 .taken)
+returns c = edit-first _ _ _ _ _ _ _ (c .before .settle-refusal .ensures) (c .if1 .taken)
 
 bad-bytes-requires : tie.Need-bad-bytes-requires
 bad-bytes-requires c κs = search needs
 
-bad-bytes-requires-2 : tie.Need-bad-bytes-requires-2
-bad-bytes-requires-2 c κs = search needs
-
-fit : (c : tie.Else1) → let a = c .before .before .before .before .before .before .before .args in Lengths (a .n) (a .m) (stateOf (a .contents .now) (a .flops .now)) (a .inputs .now) (a .values .now)
-fit c =
-    let a = c .before .before .before .before .before .before .before .args in
-    lengths (a .n) (a .m) (stateOf (a .contents .now) (a .flops .now)) (a .inputs .now) (a .values .now) (sym (c .before .bad-lengths .ensures) ∙ c .if1 .left)
-
-bad-words-requires : tie.Need-bad-words-requires
-bad-words-requires c κs = (c .before .before .before .before .before .before .before .before .before .pre, fit (c .before .before) .contents)
-
 returns-2 : tie.Need-returns-2
-unfolding editRefusal
 returns-2 c =
-    let k = c .before in
-    let e = k .before .before .before in
-    simp (← e .before .bad-lengths .ensures, e .if1 .left, ← k .before .before .bad-bytes .ensures, ← k .before .bad-bytes2 .ensures, ← k .bad-words .ensures, c .if2 .taken)
+    let e = c .before .before in
+    edit-second _ _ _ _ _ _ _ (e .before .settle-refusal .ensures) (e .if1 .left) true (rw (c .before .bad-bytes .ensures) at (c .if2 .taken))
 
 returns-3 : tie.Need-returns-3
-unfolding editRefusal
 returns-3 c =
-    let k = c .before in
-    let e = k .before .before .before in
-    simp (← e .before .bad-lengths .ensures, e .if1 .left, ← k .before .before .bad-bytes .ensures, ← k .before .bad-bytes2 .ensures, ← k .bad-words .ensures, c .if2 .left)
+    let e = c .before .before in
+    edit-second _ _ _ _ _ _ _ (e .before .settle-refusal .ensures) (e .if1 .left) false (rw (c .before .bad-bytes .ensures) at (c .if2 .left))
 
 pub edit-refusal-spec : {M : Type 1} → statement M
-edit-refusal-spec = tie.close (tie.spec bad-lengths-requires returns bad-bytes-requires bad-bytes-requires-2 bad-words-requires returns-2 returns-3)
+edit-refusal-spec = tie.close (tie.spec settle-refusal-requires returns bad-bytes-requires returns-2 returns-3)

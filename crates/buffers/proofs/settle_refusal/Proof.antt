@@ -3,8 +3,7 @@ use mathlib.Core.Path.{_∙_, sym}
 use borrow.Author.Needs.{needs}
 use Rattle.column.proofs.SoundLaws.{sound-file}
 use Rattle.buffers.specs.Buffers.{settleRefusal}
-use Rattle.column.specs.Clock.{stateOf}
-use Rattle.buffers.proofs.Lengths.{Lengths, lengths}
+use Rattle.buffers.proofs.Lengths.{lengths}
 use Rattle.buffers.proofs.settle_refusal.Statement.{statement}
 use Rattle.buffers.proofs.settle_refusal.Tie as tie
 
@@ -20,13 +19,12 @@ returns c = simp (← c .before .bad-lengths .ensures, c .if1 .taken)
 bad-bytes-requires : tie.Need-bad-bytes-requires
 bad-bytes-requires c κs = search needs
 
-fit : (c : tie.Else1) → let a = c .before .before .before .before .before .before .before .args in Lengths (a .n) (a .m) (stateOf (a .contents .now) (a .flops .now)) (a .inputs .now) (a .values .now)
-fit c =
-    let a = c .before .before .before .before .before .before .before .args in
-    lengths (a .n) (a .m) (stateOf (a .contents .now) (a .flops .now)) (a .inputs .now) (a .values .now) (sym (c .before .bad-lengths .ensures) ∙ c .if1 .left)
-
 bad-words-requires : tie.Need-bad-words-requires
-bad-words-requires c κs = (c .before .before .before .before .before .before .before .before .pre, fit (c .before) .contents)
+bad-words-requires c κs =
+    let e = c .before in
+    let b = e .before .before .before .before .before .before .before in
+    let same = sym (e .before .bad-lengths .ensures) ∙ e .if1 .left in
+    (b .pre, lengths (b .args .n) (b .args .m) _ (b .args .inputs .now) (b .args .values .now) same .contents)
 
 returns-2 : tie.Need-returns-2
 unfolding settleRefusal
