@@ -1,15 +1,12 @@
 -- What the calls on a file answer and leave. "Every call takes the file and judges it first: a refused file makes the call give the same number
 -- and place"; its own refusals, 10 and 11, have place 0; "a refusal writes nothing".
-use Prim.Native.Nat.{ℕ, suc, _≤_}
+use Prim.Native.Nat.{ℕ, suc}
 use mathlib.Core.Path.{_≡_}
 use mathlib.Core.List.{List}
-use lib.ListN.{length}
-use Rattle.netlist.specs.Table.{signalCount, tableLength}
 use Rattle.slicefile.specs.declared.Answer.{Answer}
 use Rattle.slicefile.specs.declared.Answer.the-variants.{Refused as AnswerRefused, Done}
 use Rattle.rules.specs.Rules.{given}
 use Rattle.column.specs.Clock.{State, powerUp}
-use Rattle.column.specs.Compile.{Loaded}
 use Rattle.column.specs.Judge.{Judged}
 use Rattle.column.specs.declared.Verdict.{Verdict}
 use Rattle.column.specs.declared.Verdict.the-variants.{Refused, Accepted}
@@ -20,12 +17,6 @@ pub data Called (file : List ℕ) (own : ℕ → ℕ → ℕ) (Kept : Type 0) (D
   judged : {k p : ℕ} → Judged file (Refused k p) → Kept → Called file own Kept Did (AnswerRefused k p)
   refused : {n m k : ℕ} → Judged file (Accepted n m) → own n m ≡ suc k → Kept → Called file own Kept Did (AnswerRefused (suc k) 0)
   done : {n m : ℕ} → Judged file (Accepted n m) → own n m ≡ 0 → Did n m → Called file own Kept Did Done
-
--- what the calls on an accepted file run on: it is loaded, the gate table and the order within their buffers
-pub record Ready (file : List ℕ) (n m : ℕ) (net order : List ℕ) : Type 0 where
-  pub loaded : Loaded file net order (Accepted n m)
-  pub net-fits : tableLength n ≤ length net
-  pub order-fits : signalCount n ≤ length order
 
 -- the judge's refusal as the answer of a call
 abbrev pub refusalOf : Verdict → Answer

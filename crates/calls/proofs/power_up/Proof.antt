@@ -1,7 +1,7 @@
 -- `calls::power_up` meets its contract: the judge's refusal is handed on. Assumes nothing.
 use mathlib.Core.Path.{refl}
 use borrow.Author.Needs.{needs}
-use Rattle.calls.specs.Calls.{judged}
+use Rattle.calls.proofs.Calls.{handed-on}
 use Rattle.calls.proofs.power_up.Statement.{statement}
 use Rattle.calls.proofs.power_up.Tie as tie
 
@@ -18,9 +18,7 @@ refusal-requires : tie.Need-refusal-requires
 refusal-requires c κs = search needs
 
 returns : tie.Need-returns
-returns c =
-    let e = c .before .enum-told .given .1 in
-    rw (c .refusal .ensures, e) (judged (rw e at (c .before .before .before .judge .ensures)) refl)
+returns c = handed-on _ _ (c .before .enum-told .given .1) (c .before .before .before .judge .ensures) (c .refusal .ensures) refl
 
 power-up-accepted-requires : tie.Need-power-up-accepted-requires
 power-up-accepted-requires c κs = rw (c .before .before .before .v .given .1) at (c .before .before .before .before .before .judge .ensures)
