@@ -57,6 +57,10 @@ module _ (file : List ℕ) (own : ℕ → ℕ → ℕ) where
   pub called-done : {Kept : Type 0} {Did : ℕ → ℕ → Type 0} → Called file own Kept Did Done → (n : ℕ) × (m : ℕ) × Judged file (Accepted n m) × (own n m ≡ 0) × Did n m
   called-done (done {n} {m} a e d) = (n, m, a, e, d)
 
+  -- with the n and m of the file
+  pub done-there : {Kept : Type 0} {Did : ℕ → ℕ → Type 0} {n m : ℕ} → Judged file (Accepted n m) → Called file own Kept Did Done → (own n m ≡ 0) × Did n m
+  done-there {Did = D} j (done i e d) = (own-same j i ∙ e, same-sizes file D j i d)
+
   -- "a refusal writes nothing"
   pub refused-kept : {Kept : Type 0} {Did : ℕ → ℕ → Type 0} {k p : ℕ} → Called file own Kept Did (AnswerRefused k p) → Kept
   refused-kept (judged a s) = s

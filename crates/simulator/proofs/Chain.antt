@@ -28,7 +28,7 @@ use Rattle.buffers.specs.Buffers.{badState, badWord, settleRefusal, GoodState, 
 use Rattle.buffers.proofs.Good.{state-good, words-good, good-words, settle-good, settle-tells, settled-good}
 use Rattle.buffers.proofs.Lengths.{state-lengths}
 use Rattle.calls.specs.Calls.{done, PoweredUp}
-use Rattle.calls.proofs.Demands.{same-sizes, not-refused, called-done, power-up-leaves}
+use Rattle.calls.proofs.Demands.{not-refused, called-done, done-there, power-up-leaves}
 use Rattle.simulator.specs.Running.{SettleCalled, ClockCalled}
 use Rattle.simulator.proofs.Demands.{clocks-run}
 
@@ -75,10 +75,9 @@ module _ (file : List ℕ) {n m : ℕ} (j : Judged file (Accepted n m)) where
 
   pub clock-leaves : (st moved : State) (inputs old new : List ℕ) → ClockCalled file st moved inputs old new Done → GoodState file n moved × GoodValues n new
   clock-leaves st moved inputs old new c =
-      let d = called-done file _ c in
-      let z = settle-tells file st inputs old (d .0) (d .1) (d .3) in
-      let good = same-sizes file (λ n m. GoodState file n st) j (d .2) (z .0) in
-      (subst⁻¹ (GoodState file n) (d .4 .0) (clocked-good st inputs new good), settled-good file j st inputs new (d .4 .1))
+      let d = done-there file _ j c in
+      let good = settle-tells file st inputs old n m (d .0) .0 in
+      (subst⁻¹ (GoodState file n) (d .1 .0) (clocked-good st inputs new good), settled-good file j st inputs new (d .1 .1))
 
   -- settle and clock take a good state and good inputs
   module _ (st : State) (inputs old : List ℕ) (good : GoodState file n st) (given : GoodInputs m inputs) (long : length old ≡ signalCount n) where

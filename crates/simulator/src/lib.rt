@@ -2,11 +2,11 @@
 ghost use mathlib.Core.Path.{_≡_};
 ghost use Prim.Native.Nat.{_*_};
 ghost use lib.ListN.{length};
-ghost use Rattle.lent.specs.Lent.{was, left};
+ghost use Rattle.lent.specs.Lent.{was};
 ghost use Rattle.column.specs.Check.{checkFile};
-ghost use Rattle.column.specs.Clock.{stateOf, clocked};
-ghost use Rattle.calls.specs.Calls.{Ready};
-ghost use Rattle.simulator.specs.Running.{SettleCalled, ClockCalled};
+ghost use Rattle.column.specs.Clock.{stateWas, stateLeft, clocked};
+ghost use Rattle.column.specs.Compile.{Ready};
+ghost use Rattle.simulator.specs.Running.{Settles, Clocks};
 use column::Checked;
 use column::TABLE_LIMIT;
 use column::Verdict;
@@ -26,14 +26,11 @@ fn settle_accepted(
     values: &mut [u8],
 ) -> Answer
     requires { ⌜ Ready (now file) n m (now net) (now order) ⌝ }
-    ensures { λ r. ⌜ SettleCalled (was file) (stateOf (was contents) (was flops)) (was inputs) (was values) (left values) r ⌝ }
+    ensures { λ r. ⌜ Settles file contents flops inputs values r ⌝ }
 {
-    let own = buffers::settle_refusal(file, n, m, contents, flops, inputs, values);
-    if own != 0 {
-        return Answer::Refused {
-            number: own,
-            place: 0,
-        };
+    let number = buffers::settle_refusal(file, n, m, contents, flops, inputs, values);
+    if number != 0 {
+        return Answer::Refused { number, place: 0 };
     }
     walks::settle_by(net, n, order, contents, flops, inputs, values);
     Answer::Done
@@ -47,7 +44,7 @@ pub fn settle(
     inputs: &[u8],
     values: &mut [u8],
 ) -> Answer
-    ensures { λ r. ⌜ SettleCalled (was file) (stateOf (was contents) (was flops)) (was inputs) (was values) (left values) r ⌝ }
+    ensures { λ r. ⌜ Settles file contents flops inputs values r ⌝ }
 {
     let mut net = [0u16; TABLE_LIMIT];
     let mut order = [0u16; SIGNAL_LIMIT];
@@ -68,8 +65,9 @@ fn move_state(
     contents: &mut [u64],
     flops: &mut [u8],
 )
-    requires { ⌜ (checkFile (now file) ≡ Checked.Sound n m) × (length (now contents) ≡ 4 * n) × (length (now flops) ≡ n) ⌝ }
-    ensures { λ _. ⌜ stateOf (left contents) (left flops) ≡ clocked (was file) (stateOf (was contents) (was flops)) (was inputs) (was values) ⌝ }
+    requires { ⌜ checkFile (now file) ≡ Checked.Sound n m ⌝ }
+    requires { ⌜ (length (now contents) ≡ 4 * n) × (length (now flops) ≡ n) ⌝ }
+    ensures { λ _. ⌜ stateLeft contents flops ≡ clocked (was file) (stateWas contents flops) (was inputs) (was values) ⌝ }
 {
     let mut s = 0;
     while s < n {
@@ -93,13 +91,12 @@ fn clock_accepted(
     values: &mut [u8],
 ) -> Answer
     requires { ⌜ Ready (now file) n m (now net) (now order) ⌝ }
-    ensures { λ r. ⌜ ClockCalled (was file) (stateOf (was contents) (was flops)) (stateOf (left contents) (left flops)) (was inputs) (was values) (left values) r ⌝ }
+    ensures { λ r. ⌜ Clocks file contents flops inputs values r ⌝ }
 {
-    let number = buffers::settle_refusal(file, n, m, contents, flops, inputs, values);
-    if number != 0 {
-        return Answer::Refused { number, place: 0 };
-    }
-    walks::settle_by(net, n, order, contents, flops, inputs, values);
+    let answer = settle_accepted(file, n, m, net, order, contents, flops, inputs, values);
+    let Answer::Done = answer else {
+        return answer;
+    };
     move_state(file, n, m, inputs, values, contents, flops);
     Answer::Done
 }
@@ -112,7 +109,7 @@ pub fn clock(
     inputs: &[u8],
     values: &mut [u8],
 ) -> Answer
-    ensures { λ r. ⌜ ClockCalled (was file) (stateOf (was contents) (was flops)) (stateOf (left contents) (left flops)) (was inputs) (was values) (left values) r ⌝ }
+    ensures { λ r. ⌜ Clocks file contents flops inputs values r ⌝ }
 {
     let mut net = [0u16; TABLE_LIMIT];
     let mut order = [0u16; SIGNAL_LIMIT];

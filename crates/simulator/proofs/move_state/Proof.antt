@@ -58,7 +58,7 @@ move-slice-requires c κs =
     let at = k .before .before .before in
     let b = at .before .before .before .before .before .before in
     let w = at .loop .inv .1 in
-    (count k, omega (arith, w .contents-size, b .pre .1), omega (arith, w .flops-size, b .pre .2))
+    (count k, omega (arith, w .contents-size, b .pre .1 .0), omega (arith, w .flops-size, b .pre .1 .1))
 
 add-s : tie.Need-add-s Inv-loop μ-loop
 add-s c = search needs
@@ -73,7 +73,7 @@ loop-again c =
     let at = e .before .before .before in
     let b = at .before .before .before .before .before .before in
     let w = at .loop .inv .1 in
-    (search needs, moved-next (b .args .file .now) (fine b) (b .args .inputs .now) (b .args .values .now) (b .args .contents .now) (b .args .flops .now) (at .loop .s) (search needs) (at .loop .contents) (at .loop .flops) _ _ (omega (arith, w .flops-size, b .pre .2)) w (rw (made e) at (k .move-slice .ensures .0)) (rw (made e) at (k .move-slice .ensures .1)))
+    (search needs, moved-next (b .args .file .now) (fine b) (b .args .inputs .now) (b .args .values .now) (b .args .contents .now) (b .args .flops .now) (at .loop .s) (search needs) (at .loop .contents) (at .loop .flops) _ _ (omega (arith, w .flops-size, b .pre .1 .1)) w (rw (made e) at (k .move-slice .ensures .0)) (rw (made e) at (k .move-slice .ensures .1)))
 
 same-length : tie.Need-same-length Inv-loop μ-loop
 same-length c = c .before .loop .inv .1 .contents-size
@@ -85,7 +85,7 @@ returns : tie.Need-returns Inv-loop μ-loop
 returns c =
     let at = c .before in
     let b = at .before .before .before .before .before .before in
-    moved-all (b .args .file .now) (fine b) (b .args .inputs .now) (b .args .values .now) (b .args .contents .now) (b .args .flops .now) (b .pre .1) (b .pre .2) (at .loop .s) (search needs) (at .loop .inv .0) (at .loop .contents) (at .loop .flops) (at .loop .inv .1)
+    moved-all (b .args .file .now) (fine b) (b .args .inputs .now) (b .args .values .now) (b .args .contents .now) (b .args .flops .now) (b .pre .1 .0) (b .pre .1 .1) (at .loop .s) (search needs) (at .loop .inv .0) (at .loop .contents) (at .loop .flops) (at .loop .inv .1)
 
 pub move-state-spec : {M : Type 1} → statement M
 move-state-spec =

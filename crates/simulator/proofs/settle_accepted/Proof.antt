@@ -1,8 +1,7 @@
 -- `simulator::settle_accepted` meets its contract. Assumes nothing.
 use mathlib.Core.Path.{_≡_, _∙_, refl, sym}
 use borrow.Author.Needs.{needs}
-use lib.ListN.{take}
-use Rattle.netlist.specs.Table.{signalCount, tableLength, gateOf}
+use Rattle.netlist.specs.Table.{signalCount, netOf}
 use Rattle.netlist.proofs.Agree.{settled-agree}
 use Rattle.column.specs.File.{gateAt}
 use Rattle.column.proofs.SoundLaws.{SoundFile, sound-file}
@@ -16,12 +15,12 @@ use Rattle.simulator.proofs.settle_accepted.Statement.{statement}
 use Rattle.simulator.proofs.settle_accepted.Tie as tie
 
 fine : (c : tie.Start) → SoundFile (c .args .file .now) (c .args .n) (c .args .m)
-fine c = sound-file (c .args .file .now) (accepted-sound (c .args .file .now) (c .pre .loaded .0))
+fine c = sound-file (c .args .file .now) (accepted-sound (c .args .file .now) (c .pre .verdict))
 
 settle-refusal-requires : tie.Need-settle-refusal-requires
 settle-refusal-requires c κs =
     let b = c .before .before .before .before .before .before .before .before in
-    accepted-sound (b .args .file .now) (b .pre .loaded .0)
+    accepted-sound (b .args .file .now) (b .pre .verdict)
 
 same-length : tie.Need-same-length
 same-length c = search needs
@@ -30,7 +29,7 @@ returns : tie.Need-returns
 returns c =
     let k = c .before in
     let b = k .before .before .before .before .before .before .before .before .before in
-    refused-by (b .args .file .now) _ (b .pre .loaded .0) _ (k .settle-refusal .ensures) (c .if1 .taken) refl
+    refused-by (b .args .file .now) _ (b .pre .verdict) _ (k .settle-refusal .ensures) (c .if1 .taken) refl
 
 none : (c : tie.Else1) → let a = c .before .before .before .before .before .before .before .before .before .before .args in settleRefusal (a .file .now) (stateOf (a .contents .now) (a .flops .now)) (a .inputs .now) (a .values .now) (a .n) (a .m) ≡ 0
 none c = sym (c .before .settle-refusal .ensures) ∙ c .if1 .left
@@ -51,8 +50,8 @@ returns-2 c =
     let e = k .before .before in
     let b = e .before .before .before .before .before .before .before .before .before .before in
     let a = b .args in
-    done (b .pre .loaded .0) (none e)
-    (rw (fine b .count) (settled-agree (gateOf (take (tableLength (a .n)) (a .net .now)) (a .n)) (gateAt (a .file .now)) (signalCount (a .n)) (b .pre .loaded .1) _ _ (k .settle-by .ensures)))
+    done (b .pre .verdict) (none e)
+    (rw (fine b .count) (settled-agree (netOf (a .net .now) (a .n)) (gateAt (a .file .now)) (signalCount (a .n)) (b .pre .lowered) _ _ (k .settle-by .ensures)))
 
 pub settle-accepted-spec : {M : Type 1} → statement M
 settle-accepted-spec = tie.close (tie.spec settle-refusal-requires same-length returns settle-by-requires same-length-2 returns-2)
