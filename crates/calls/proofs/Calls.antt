@@ -34,8 +34,8 @@ module _ (file : List ℕ) (own : ℕ → ℕ → ℕ) {Kept : Type 0} {Did : �
   refused-as f (refused j e kept) = refused j e (f kept)
 
 -- what a walk along the order asks for
-pub ready-walk : (file : List ℕ) (n m : ℕ) (net order values : List ℕ) → Ready file n m net order → length values ≡ signalCount n → Walkable n net order values
-ready-walk file n m net order values r size =
+pub ready-walk : (file : List ℕ) {n m : ℕ} {net order values : List ℕ} → Ready file n m net order → length values ≡ signalCount n → Walkable n net order values
+ready-walk file {n} {net = net} {order} r size =
     let few = sound-file file (accepted-sound file (r .verdict)) .slices-fit in
     record {
       few = omega arith;

@@ -3,10 +3,11 @@
 use Prim.Native.Nat.{ℕ, suc}
 use mathlib.Core.Path.{_≡_}
 use mathlib.Core.List.{List}
+use Rattle.lent.specs.Lent.{Lent, was}
 use Rattle.slicefile.specs.declared.Answer.{Answer}
 use Rattle.slicefile.specs.declared.Answer.the-variants.{Refused as AnswerRefused, Done}
 use Rattle.rules.specs.Rules.{given}
-use Rattle.column.specs.Clock.{State, powerUp}
+use Rattle.column.specs.Clock.{State, stateWas, stateLeft, powerUp}
 use Rattle.column.specs.Judge.{Judged}
 use Rattle.column.specs.declared.Verdict.{Verdict}
 use Rattle.column.specs.declared.Verdict.the-variants.{Refused, Accepted}
@@ -26,3 +27,7 @@ refusalOf (Accepted n m) = Done
 -- "power up (fills contents and flip-flops)"
 abbrev pub PoweredUp : List ℕ → State → State → Answer → Type 0
 PoweredUp file old new = Called file (λ n m. given 10 (badState n old)) (new ≡ old) (λ n m. new ≡ powerUp file)
+
+-- the same on lent buffers, as they were and as they are left
+abbrev pub PowersUp : Lent → Lent → Lent → Answer → Type 0
+PowersUp file contents flops = PoweredUp (was file) (stateWas contents flops) (stateLeft contents flops)

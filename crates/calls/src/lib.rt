@@ -4,9 +4,9 @@ ghost use Prim.Native.Nat.{_*_};
 ghost use lib.ListN.{length};
 ghost use Rattle.lent.specs.Lent.{was, left};
 ghost use Rattle.column.specs.Check.{checkFile};
-ghost use Rattle.column.specs.Clock.{stateWas, stateLeft, powerUp};
+ghost use Rattle.column.specs.Clock.{powerUp};
 ghost use Rattle.column.specs.Judge.{Judged};
-ghost use Rattle.calls.specs.Calls.{refusalOf, PoweredUp};
+ghost use Rattle.calls.specs.Calls.{refusalOf, PowersUp};
 use column::Checked;
 use column::Verdict;
 use slicefile::Answer;
@@ -57,7 +57,7 @@ fn power_up_accepted(
     flops: &mut [u8],
 ) -> Answer
     requires { ⌜ Judged (now file) (Verdict.Accepted n m) ⌝ }
-    ensures { λ r. ⌜ PoweredUp (was file) (stateWas contents flops) (stateLeft contents flops) r ⌝ }
+    ensures { λ r. ⌜ PowersUp file contents flops r ⌝ }
 {
     if buffers::bad_state(n, contents, flops) {
         return Answer::Refused {
@@ -72,7 +72,7 @@ fn power_up_accepted(
 
 // Fills 4n words of contents and n flip-flop bytes with the state at power-up.
 pub fn power_up(file: &[u8], contents: &mut [u64], flops: &mut [u8]) -> Answer
-    ensures { λ r. ⌜ PoweredUp (was file) (stateWas contents flops) (stateLeft contents flops) r ⌝ }
+    ensures { λ r. ⌜ PowersUp file contents flops r ⌝ }
 {
     let v = column::judge(file);
     let Verdict::Accepted { n, m } = v else {

@@ -3,28 +3,28 @@ use mathlib.Core.Path.{_≡_}
 use mathlib.Core.Bool.{Bool}
 use mathlib.Core.List.{List}
 use Prim.Native.Nat.{ℕ}
-use lib.ListN.{take}
 use Rattle.netlist.specs.Rule.{Env}
 use Rattle.netlist.specs.Settle.{Edited}
 use Rattle.netlist.specs.declared.Gate.{Gate}
-use Rattle.netlist.specs.Table.{signalCount, tableLength, gateOf}
+use Rattle.netlist.specs.Table.{signalCount, netOf}
 use Rattle.netlist.proofs.Agree.{agree-sym, well-formed-agree}
+use Rattle.walks.specs.Marked.{touchesMarked}
+use Rattle.walks.specs.Walks.{EditedBy}
 use Rattle.walks.proofs.Edits.{edited-as, edited-agree}
+use Rattle.column.specs.Compile.{Ready}
 use Rattle.column.specs.File.{gateAt}
 use Rattle.column.proofs.Netlist.{sound-well-formed}
 use Rattle.column.proofs.SoundLaws.{sound-file}
 use Rattle.column.proofs.Verdicts.{accepted-sound}
-use Rattle.calls.specs.Calls.{Ready}
 
 -- an edit of the netlist in the table, by marks that say what a change touches, is one of the file
-pub edited-file : (file : List ℕ) (n m : ℕ) (net order : List ℕ) → Ready file n m net order → {e : Env} {old new : List ℕ} (marked touches : Gate → Bool)
-    → ((gate : Gate) → marked gate ≡ touches gate)
-    → Edited (gateOf (take (tableLength n) net) n) (signalCount n) e (λ x. marked (gateOf (take (tableLength n) net) n x)) old new
+pub edited-file : (file : List ℕ) {n m : ℕ} {net order : List ℕ} → Ready file n m net order → {e : Env} {old new : List ℕ} (changed edited : List ℕ) (touches : Gate → Bool)
+    → ((gate : Gate) → touchesMarked changed edited gate ≡ touches gate) → EditedBy net n e changed edited old new
     → Edited (gateAt file) (signalCount n) e (λ x. touches (gateAt file x)) old new
-edited-file file n m net order r marked touches same d =
-    let g = gateOf (take (tableLength n) net) n in
-    let f = sound-file file (accepted-sound file (r .loaded .0)) in
-    edited-agree g (gateAt file) (signalCount n) (r .loaded .1)
-    (well-formed-agree (gateAt file) g (signalCount n) (agree-sym (r .loaded .1)) (sound-well-formed file f))
+edited-file file {n} {net = net} r changed edited touches same d =
+    let g = netOf net n in
+    let f = sound-file file (accepted-sound file (r .verdict)) in
+    edited-agree g (gateAt file) (signalCount n) (r .lowered)
+    (well-formed-agree (gateAt file) g (signalCount n) (agree-sym (r .lowered)) (sound-well-formed file f))
     touches
     (edited-as (λ x. same (g x)) d)

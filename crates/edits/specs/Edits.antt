@@ -5,12 +5,13 @@ use mathlib.Core.Path.{_≡_}
 use mathlib.Core.Bool.{Bool}
 use mathlib.Core.List.{List}
 use lib.ListN.{set}
+use Rattle.lent.specs.Lent.{Lent, was, left}
 use Rattle.netlist.specs.Rule.{touchesInput, touchesTable}
 use Rattle.netlist.specs.Settle.{Edited}
 use Rattle.netlist.specs.declared.Gate.{Gate}
 use Rattle.netlist.specs.Table.{signalCount}
 use Rattle.slicefile.specs.declared.Answer.{Answer}
-use Rattle.column.specs.Clock.{State, stateOf, envOf}
+use Rattle.column.specs.Clock.{State, stateOf, stateWas, envOf}
 use Rattle.column.specs.File.{gateAt}
 use Rattle.buffers.specs.Buffers.{editRefusal, badInput, badTable}
 use Rattle.calls.specs.Calls.{Called}
@@ -30,3 +31,12 @@ abbrev pub TableEdited : List ℕ → List ℕ → List ℕ → List ℕ → ℕ
 TableEdited file contents contents′ flops table word inputs old new =
     Called file (λ n m. editRefusal (badTable file n table word) file (stateOf contents flops) inputs old n m) ((contents′ ≡ contents) × (new ≡ old))
     (λ n m. (contents′ ≡ set contents table word) × EditedFor file (touchesTable table) (stateOf contents′ flops) inputs old new n)
+
+-- the two calls' promises on lent buffers, as they were and as they are left
+abbrev pub EditsInput : Lent → Lent → Lent → Lent → Lent → ℕ → ℕ → Answer → Type 0
+EditsInput file contents flops inputs values input byte =
+    InputEdited (was file) (stateWas contents flops) input byte (was inputs) (left inputs) (was values) (left values)
+
+abbrev pub EditsTable : Lent → Lent → Lent → Lent → Lent → ℕ → ℕ → Answer → Type 0
+EditsTable file contents flops inputs values table word =
+    TableEdited (was file) (was contents) (left contents) (was flops) table word (was inputs) (was values) (left values)

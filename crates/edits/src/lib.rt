@@ -1,9 +1,7 @@
 // The calls on a slice file and lent buffers that change it as it runs: edit an input, edit a table's contents.
 ghost use mathlib.Core.Path.{_≡_};
-ghost use Rattle.lent.specs.Lent.{was, left};
-ghost use Rattle.column.specs.Clock.{stateOf};
-ghost use Rattle.calls.specs.Calls.{Ready};
-ghost use Rattle.edits.specs.Edits.{InputEdited, TableEdited};
+ghost use Rattle.column.specs.Compile.{Ready};
+ghost use Rattle.edits.specs.Edits.{EditsInput, EditsTable};
 use column::TABLE_LIMIT;
 use column::Verdict;
 use netlist::SIGNAL_LIMIT;
@@ -29,7 +27,7 @@ fn edit_input_accepted(
     byte: u8,
 ) -> Answer
     requires { ⌜ Ready (now file) n m (now net) (now order) ⌝ }
-    ensures { λ r. ⌜ InputEdited (was file) (stateOf (was contents) (was flops)) input byte (was inputs) (left inputs) (was values) (left values) r ⌝ }
+    ensures { λ r. ⌜ EditsInput file contents flops inputs values input byte r ⌝ }
 {
     let bad = (m <= input) | (1 < byte);
     let number = buffers::edit_refusal(bad, file, n, m, contents, flops, inputs, values);
@@ -64,7 +62,7 @@ pub fn edit_input(
     input: usize,
     byte: u8,
 ) -> Answer
-    ensures { λ r. ⌜ InputEdited (was file) (stateOf (was contents) (was flops)) input byte (was inputs) (left inputs) (was values) (left values) r ⌝ }
+    ensures { λ r. ⌜ EditsInput file contents flops inputs values input byte r ⌝ }
 {
     let mut net = [0u16; TABLE_LIMIT];
     let mut order = [0u16; SIGNAL_LIMIT];
@@ -102,7 +100,7 @@ fn edit_table_accepted(
     word: u64,
 ) -> Answer
     requires { ⌜ Ready (now file) n m (now net) (now order) ⌝ }
-    ensures { λ r. ⌜ TableEdited (was file) (was contents) (left contents) (was flops) table word (was inputs) (was values) (left values) r ⌝ }
+    ensures { λ r. ⌜ EditsTable file contents flops inputs values table word r ⌝ }
 {
     let bad = buffers::bad_table(file, n, m, table, word);
     let number = buffers::edit_refusal(bad, file, n, m, contents, flops, inputs, values);
@@ -137,7 +135,7 @@ pub fn edit_table(
     table: usize,
     word: u64,
 ) -> Answer
-    ensures { λ r. ⌜ TableEdited (was file) (was contents) (left contents) (was flops) table word (was inputs) (was values) (left values) r ⌝ }
+    ensures { λ r. ⌜ EditsTable file contents flops inputs values table word r ⌝ }
 {
     let mut net = [0u16; TABLE_LIMIT];
     let mut order = [0u16; SIGNAL_LIMIT];

@@ -6,6 +6,7 @@ use borrow.Author.Needs.{needs}
 use borrow.Author.Tests.{leb-false}
 use lib.Dec.{leb, ltb}
 use Rattle.netlist.specs.Rule.{touchesInput}
+use Rattle.slicefile.specs.Format.{inputLimit}
 use Rattle.slicefile.proofs.Tests.{or-left}
 use Rattle.walks.proofs.Reached.{marks-one-input}
 use Rattle.column.proofs.SoundLaws.{SoundFile, sound-file}
@@ -20,12 +21,12 @@ use Rattle.edits.proofs.edit_input_accepted.Statement.{statement}
 use Rattle.edits.proofs.edit_input_accepted.Tie as tie
 
 fine : (c : tie.Start) → SoundFile (c .args .file .now) (c .args .n) (c .args .m)
-fine c = sound-file (c .args .file .now) (accepted-sound (c .args .file .now) (c .pre .loaded .0))
+fine c = sound-file (c .args .file .now) (accepted-sound (c .args .file .now) (c .pre .verdict))
 
 edit-refusal-requires : tie.Need-edit-refusal-requires
 edit-refusal-requires c κs =
     let b = c .before .before .before .before .before .before .before .before .before in
-    accepted-sound (b .args .file .now) (b .pre .loaded .0)
+    accepted-sound (b .args .file .now) (b .pre .verdict)
 
 same-length : tie.Need-same-length
 same-length c = search needs
@@ -36,7 +37,7 @@ same-length-2 c = search needs
 returns : tie.Need-returns
 returns c =
     let b = c .before .before .before .before .before .before .before .before .before .before .before in
-    refused-by (b .args .file .now) _ (b .pre .loaded .0) _ (c .before .edit-refusal .ensures) (c .if1 .taken) (refl, refl)
+    refused-by (b .args .file .now) _ (b .pre .verdict) _ (c .before .edit-refusal .ensures) (c .if1 .taken) (refl, refl)
 
 -- the edit is not refused, so the buffers have their lengths, and the input is there
 module _ (c : tie.Else1) where
@@ -71,7 +72,7 @@ edit-by-requires : tie.Need-edit-by-requires
 edit-by-requires c κs =
     let e = c .before .before .before .before in
     let b = start e in
-    ready-walk (b .args .file .now) (b .args .n) (b .args .m) (b .args .net .now) (b .args .order .now) (b .args .values .now) (b .pre) (fit e .values)
+    ready-walk (b .args .file .now) (b .pre) (fit e .values)
 
 same-length-3 : tie.Need-same-length-3
 same-length-3 c = search needs
@@ -84,8 +85,8 @@ returns-2 c =
     let k = c .before .before in
     let e = k .before .before .before .before .before in
     let b = start e in
-    done (b .pre .loaded .0) (none e)
-    (refl, edited-file (b .args .file .now) (b .args .n) (b .args .m) (b .args .net .now) (b .args .order .now) (b .pre) _ (touchesInput (b .args .input)) (marks-one-input 64 1 (b .args .input) (omega (arith, there e, fine b .inputs-fit))) (k .edit-by .ensures))
+    done (b .pre .verdict) (none e)
+    (refl, edited-file (b .args .file .now) (b .pre) _ _ (touchesInput (b .args .input)) (marks-one-input inputLimit 1 (b .args .input) (omega (arith, there e, fine b .inputs-fit))) (k .edit-by .ensures))
 
 pub edit-input-accepted-spec : {M : Type 1} → statement M
 edit-input-accepted-spec =

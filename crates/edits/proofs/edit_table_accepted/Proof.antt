@@ -6,6 +6,7 @@ use borrow.Author.Needs.{needs}
 use borrow.Author.Tests.{leb-false}
 use lib.Dec.{leb}
 use Rattle.netlist.specs.Rule.{touchesTable}
+use Rattle.slicefile.specs.Format.{sliceLimit}
 use Rattle.slicefile.proofs.Tests.{or-left}
 use Rattle.walks.proofs.Reached.{marks-one-table}
 use Rattle.column.proofs.SoundLaws.{SoundFile, sound-file}
@@ -20,17 +21,17 @@ use Rattle.edits.proofs.edit_table_accepted.Statement.{statement}
 use Rattle.edits.proofs.edit_table_accepted.Tie as tie
 
 fine : (c : tie.Start) → SoundFile (c .args .file .now) (c .args .n) (c .args .m)
-fine c = sound-file (c .args .file .now) (accepted-sound (c .args .file .now) (c .pre .loaded .0))
+fine c = sound-file (c .args .file .now) (accepted-sound (c .args .file .now) (c .pre .verdict))
 
 bad-table-requires : tie.Need-bad-table-requires
 bad-table-requires c κs =
     let b = c .before .before .before .before .before .before .before in
-    accepted-sound (b .args .file .now) (b .pre .loaded .0)
+    accepted-sound (b .args .file .now) (b .pre .verdict)
 
 edit-refusal-requires : tie.Need-edit-refusal-requires
 edit-refusal-requires c κs =
     let b = c .before .before .before .before .before .before .before .before .before .before in
-    accepted-sound (b .args .file .now) (b .pre .loaded .0)
+    accepted-sound (b .args .file .now) (b .pre .verdict)
 
 same-length : tie.Need-same-length
 same-length c = search needs
@@ -42,7 +43,7 @@ returns : tie.Need-returns
 returns c =
     let t = c .before .before .before .before in
     let b = t .before .before .before .before .before .before .before .before in
-    refused-by (b .args .file .now) _ (b .pre .loaded .0) _ (rw (t .bad-table .ensures) at (c .before .edit-refusal .ensures)) (c .if1 .taken) (refl, refl)
+    refused-by (b .args .file .now) _ (b .pre .verdict) _ (rw (t .bad-table .ensures) at (c .before .edit-refusal .ensures)) (c .if1 .taken) (refl, refl)
 
 -- the edit is not refused, so the buffers have their lengths, and the table is there
 module _ (c : tie.Else1) where
@@ -80,7 +81,7 @@ edit-by-requires : tie.Need-edit-by-requires
 edit-by-requires c κs =
     let e = c .before .before .before .before in
     let b = start e in
-    ready-walk (b .args .file .now) (b .args .n) (b .args .m) (b .args .net .now) (b .args .order .now) (b .args .values .now) (b .pre) (fit e .values)
+    ready-walk (b .args .file .now) (b .pre) (fit e .values)
 
 same-length-3 : tie.Need-same-length-3
 same-length-3 c = search needs
@@ -93,8 +94,8 @@ returns-2 c =
     let k = c .before .before in
     let e = k .before .before .before .before .before in
     let b = start e in
-    done (b .pre .loaded .0) (none e)
-    (refl, edited-file (b .args .file .now) (b .args .n) (b .args .m) (b .args .net .now) (b .args .order .now) (b .pre) _ (touchesTable (b .args .table)) (marks-one-table 1 256 (b .args .table) (omega (arith, there e, fine b .slices-fit))) (k .edit-by .ensures))
+    done (b .pre .verdict) (none e)
+    (refl, edited-file (b .args .file .now) (b .pre) _ _ (touchesTable (b .args .table)) (marks-one-table 1 (4 * sliceLimit) (b .args .table) (omega (arith, there e, fine b .slices-fit))) (k .edit-by .ensures))
 
 pub edit-table-accepted-spec : {M : Type 1} → statement M
 edit-table-accepted-spec =

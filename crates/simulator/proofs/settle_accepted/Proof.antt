@@ -39,7 +39,7 @@ settle-by-requires c κs =
     let b = c .before .before .before .before .before .before .before .before .before .before .before in
     let a = b .args in
     let l = settle-lengths (a .file .now) (stateOf (a .contents .now) (a .flops .now)) (a .inputs .now) (a .values .now) (a .n) (a .m) (none (c .before)) in
-    ready-walk (a .file .now) (a .n) (a .m) (a .net .now) (a .order .now) (a .values .now) (b .pre) (l .values)
+    ready-walk (a .file .now) (b .pre) (l .values)
 
 same-length-2 : tie.Need-same-length-2
 same-length-2 c = search needs
