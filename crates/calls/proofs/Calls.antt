@@ -14,7 +14,7 @@ use Rattle.column.specs.File.{gateAt}
 use Rattle.column.specs.Judge.{Judged}
 use Rattle.column.specs.declared.Verdict.{Verdict}
 use Rattle.column.specs.declared.Verdict.the-variants.{Refused as VerdictRefused, Accepted}
-use Rattle.column.proofs.SoundLaws.{sound-file}
+use Rattle.column.proofs.SoundLaws.{SoundFile, sound-file}
 use Rattle.column.proofs.Verdicts.{accepted-sound}
 use Rattle.calls.specs.Calls.{Called, judged, refused, refusalOf}
 
@@ -33,10 +33,14 @@ module _ (file : List ℕ) (own : ℕ → ℕ → ℕ) {Kept : Type 0} {Did : �
   refused-as f (judged j kept) = judged j (f kept)
   refused-as f (refused j e kept) = refused j e (f kept)
 
+-- a file that is ready has sound records
+pub ready-sound : (file : List ℕ) {n m : ℕ} {net order : List ℕ} → Ready file n m net order → SoundFile file n m
+ready-sound file r = sound-file file (accepted-sound file (r .verdict))
+
 -- what a walk along the order asks for
 pub ready-walk : (file : List ℕ) {n m : ℕ} {net order values : List ℕ} → Ready file n m net order → length values ≡ signalCount n → Walkable n net order values
 ready-walk file {n} {net = net} {order} r size =
-    let few = sound-file file (accepted-sound file (r .verdict)) .slices-fit in
+    let few = ready-sound file r .slices-fit in
     record {
       few = omega arith;
       net-fits = r .net-fits;

@@ -26,7 +26,7 @@ use Rattle.buffers.specs.Buffers.{badWord, editRefusal, badInput, badTable, Goo
 use Rattle.buffers.proofs.Good.{bytes-good, good-bytes, set-bytes, set-words, state-good, edit-good, edit-tells}
 use Rattle.buffers.proofs.Lengths.{state-lengths, edit-lengths, edit-argument}
 use Rattle.calls.specs.Calls.{done}
-use Rattle.calls.proofs.Demands.{same-sizes, agree, not-refused}
+use Rattle.calls.proofs.Demands.{agree, done-there, not-refused}
 use Rattle.edits.specs.Edits.{EditedFor, InputEdited, TableEdited}
 
 module _ (file : List ℕ) {n m : ℕ} (j : Judged file (Accepted n m)) where
@@ -117,11 +117,12 @@ module _ (file : List ℕ) {n m : ℕ} (j : Judged file (Accepted n m)) where
 
 pub input-edit-leaves : (file : List ℕ) (st : State) (input byte : ℕ) (inputs left old new : List ℕ) {n m : ℕ} → Judged file (Accepted n m)
     → InputEdited file st input byte inputs left old new Done → GoodState file n st × GoodInputs m left × GoodValues n new
-input-edit-leaves file st input byte inputs left old new j (done i z d) =
-    same-sizes file (λ n m. GoodState file n st × GoodInputs m left × GoodValues n new) j i (input-leaves file i st input byte inputs left old new z (d .0) (d .1))
+input-edit-leaves file st input byte inputs left old new j c =
+    let d = done-there file _ j c in
+    input-leaves file j st input byte inputs left old new (d .0) (d .1 .0) (d .1 .1)
 
 pub table-edit-leaves : (file contents left flops : List ℕ) (table word : ℕ) (inputs old new : List ℕ) {n m : ℕ} → Judged file (Accepted n m)
     → TableEdited file contents left flops table word inputs old new Done → GoodState file n (stateOf left flops) × GoodInputs m inputs × GoodValues n new
-table-edit-leaves file contents left flops table word inputs old new j (done i z d) =
-    same-sizes file (λ n m. GoodState file n (stateOf left flops) × GoodInputs m inputs × GoodValues n new) j i
-    (table-leaves file i contents left flops table word inputs old new z (d .0) (d .1))
+table-edit-leaves file contents left flops table word inputs old new j c =
+    let d = done-there file _ j c in
+    table-leaves file j contents left flops table word inputs old new (d .0) (d .1 .0) (d .1 .1)

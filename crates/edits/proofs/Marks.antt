@@ -14,8 +14,7 @@ use Rattle.walks.proofs.Edits.{edited-as, edited-agree}
 use Rattle.column.specs.Compile.{Ready}
 use Rattle.column.specs.File.{gateAt}
 use Rattle.column.proofs.Netlist.{sound-well-formed}
-use Rattle.column.proofs.SoundLaws.{sound-file}
-use Rattle.column.proofs.Verdicts.{accepted-sound}
+use Rattle.calls.proofs.Calls.{ready-sound}
 
 -- an edit of the netlist in the table, by marks that say what a change touches, is one of the file
 pub edited-file : (file : List ℕ) {n m : ℕ} {net order : List ℕ} → Ready file n m net order → {e : Env} {old new : List ℕ} (changed edited : List ℕ) (touches : Gate → Bool)
@@ -23,8 +22,7 @@ pub edited-file : (file : List ℕ) {n m : ℕ} {net order : List ℕ} → Ready
     → Edited (gateAt file) (signalCount n) e (λ x. touches (gateAt file x)) old new
 edited-file file {n} {net = net} r changed edited touches same d =
     let g = netOf net n in
-    let f = sound-file file (accepted-sound file (r .verdict)) in
     edited-agree g (gateAt file) (signalCount n) (r .lowered)
-    (well-formed-agree (gateAt file) g (signalCount n) (agree-sym (r .lowered)) (sound-well-formed file f))
+    (well-formed-agree (gateAt file) g (signalCount n) (agree-sym (r .lowered)) (sound-well-formed file (ready-sound file r)))
     touches
     (edited-as (λ x. same (g x)) d)

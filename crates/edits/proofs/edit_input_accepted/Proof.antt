@@ -4,24 +4,19 @@ use Prim.Native.Nat.{_<_}
 use native.Mathlib.Omega.{arith}
 use borrow.Author.Needs.{needs}
 use borrow.Author.Tests.{leb-false}
-use lib.Dec.{leb, ltb}
 use Rattle.netlist.specs.Rule.{touchesInput}
 use Rattle.slicefile.specs.Format.{inputLimit}
 use Rattle.slicefile.proofs.Tests.{or-left}
 use Rattle.walks.proofs.Reached.{marks-one-input}
-use Rattle.column.proofs.SoundLaws.{SoundFile, sound-file}
 use Rattle.column.proofs.Verdicts.{accepted-sound}
 use Rattle.buffers.specs.Buffers.{editRefusal, badInput}
 use Rattle.column.specs.Clock.{stateOf}
 use Rattle.calls.specs.Calls.{done}
-use Rattle.calls.proofs.Calls.{refused-by, ready-walk}
+use Rattle.calls.proofs.Calls.{refused-by, ready-sound, ready-walk}
 use Rattle.edits.proofs.Marks.{edited-file}
-use Rattle.buffers.proofs.Lengths.{Lengths, edit-lengths, edit-argument}
+use Rattle.buffers.proofs.Lengths.{edit-lengths, edit-argument}
 use Rattle.edits.proofs.edit_input_accepted.Statement.{statement}
 use Rattle.edits.proofs.edit_input_accepted.Tie as tie
-
-fine : (c : tie.Start) → SoundFile (c .args .file .now) (c .args .n) (c .args .m)
-fine c = sound-file (c .args .file .now) (accepted-sound (c .args .file .now) (c .pre .verdict))
 
 edit-refusal-requires : tie.Need-edit-refusal-requires
 edit-refusal-requires c κs =
@@ -44,23 +39,19 @@ module _ (c : tie.Else1) where
   abbrev start : tie.Start
   start = c .before .before .before .before .before .before .before .before .before .before .before
 
-  none : let a = start .args in editRefusal (badInput (a .m) (a .input) (a .byte)) (a .file .now) (stateOf (a .contents .now) (a .flops .now)) (a .inputs .now) (a .values .now) (a .n) (a .m) ≡ 0
+  none :
+      let a = start .args in
+      editRefusal (badInput (a .m) (a .input) (a .byte)) (a .file .now) (stateOf (a .contents .now) (a .flops .now)) (a .inputs .now) (a .values .now) (a .n) (a .m) ≡ 0
   none = sym (c .before .edit-refusal .ensures) ∙ c .if1 .left
 
-  fit : let a = start .args in Lengths (a .n) (a .m) (stateOf (a .contents .now) (a .flops .now)) (a .inputs .now) (a .values .now)
-  fit = let a = start .args in edit-lengths (badInput (a .m) (a .input) (a .byte)) (a .file .now) (stateOf (a .contents .now) (a .flops .now)) (a .inputs .now) (a .values .now) (a .n) (a .m) none
-
   there : start .args .input < start .args .m
-  there =
-      let a = start .args in
-      let good = edit-argument (badInput (a .m) (a .input) (a .byte)) (a .file .now) (stateOf (a .contents .now) (a .flops .now)) (a .inputs .now) (a .values .now) (a .n) (a .m) none in
-      leb-false (a .m) (a .input) (or-left (leb (a .m) (a .input)) (ltb 1 (a .byte)) good)
+  there = leb-false _ _ (or-left _ _ (edit-argument _ _ _ _ _ _ _ none))
 
 slice-write-inputs : tie.Need-slice-write-inputs
-slice-write-inputs c = omega (arith, there c, fit c .inputs)
+slice-write-inputs c = omega (arith, there c, edit-lengths _ _ _ _ _ _ _ (none c) .inputs)
 
 array-write-changed : tie.Need-array-write-changed
-array-write-changed c = omega (arith, there c, fine (start c) .inputs-fit)
+array-write-changed c = omega (arith, there c, ready-sound _ (start c .pre) .inputs-fit)
 
 slice-aggregate-edit-by : tie.Need-slice-aggregate-edit-by
 slice-aggregate-edit-by c = search needs
@@ -72,7 +63,7 @@ edit-by-requires : tie.Need-edit-by-requires
 edit-by-requires c κs =
     let e = c .before .before .before .before in
     let b = start e in
-    ready-walk (b .args .file .now) (b .pre) (fit e .values)
+    ready-walk (b .args .file .now) (b .pre) (edit-lengths _ _ _ _ _ _ _ (none e) .values)
 
 same-length-3 : tie.Need-same-length-3
 same-length-3 c = search needs
@@ -86,7 +77,7 @@ returns-2 c =
     let e = k .before .before .before .before .before in
     let b = start e in
     done (b .pre .verdict) (none e)
-    (refl, edited-file (b .args .file .now) (b .pre) _ _ (touchesInput (b .args .input)) (marks-one-input inputLimit 1 (b .args .input) (omega (arith, there e, fine b .inputs-fit))) (k .edit-by .ensures))
+    (refl, edited-file (b .args .file .now) (b .pre) _ _ (touchesInput (b .args .input)) (marks-one-input inputLimit 1 (b .args .input) (omega (arith, there e, ready-sound _ (b .pre) .inputs-fit))) (k .edit-by .ensures))
 
 pub edit-input-accepted-spec : {M : Type 1} → statement M
 edit-input-accepted-spec =

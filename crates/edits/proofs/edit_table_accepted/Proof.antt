@@ -4,24 +4,19 @@ use Prim.Native.Nat.{_*_, _<_}
 use native.Mathlib.Omega.{arith}
 use borrow.Author.Needs.{needs}
 use borrow.Author.Tests.{leb-false}
-use lib.Dec.{leb}
 use Rattle.netlist.specs.Rule.{touchesTable}
 use Rattle.slicefile.specs.Format.{sliceLimit}
 use Rattle.slicefile.proofs.Tests.{or-left}
 use Rattle.walks.proofs.Reached.{marks-one-table}
-use Rattle.column.proofs.SoundLaws.{SoundFile, sound-file}
 use Rattle.column.proofs.Verdicts.{accepted-sound}
-use Rattle.buffers.specs.Buffers.{editRefusal, badTable, badWord}
+use Rattle.buffers.specs.Buffers.{editRefusal, badTable}
 use Rattle.column.specs.Clock.{stateOf}
 use Rattle.calls.specs.Calls.{done}
-use Rattle.calls.proofs.Calls.{refused-by, ready-walk}
+use Rattle.calls.proofs.Calls.{refused-by, ready-sound, ready-walk}
 use Rattle.edits.proofs.Marks.{edited-file}
-use Rattle.buffers.proofs.Lengths.{Lengths, edit-lengths, edit-argument}
+use Rattle.buffers.proofs.Lengths.{edit-lengths, edit-argument}
 use Rattle.edits.proofs.edit_table_accepted.Statement.{statement}
 use Rattle.edits.proofs.edit_table_accepted.Tie as tie
-
-fine : (c : tie.Start) → SoundFile (c .args .file .now) (c .args .n) (c .args .m)
-fine c = sound-file (c .args .file .now) (accepted-sound (c .args .file .now) (c .pre .verdict))
 
 bad-table-requires : tie.Need-bad-table-requires
 bad-table-requires c κs =
@@ -50,26 +45,22 @@ module _ (c : tie.Else1) where
   abbrev start : tie.Start
   start = c .before .before .before .before .before .before .before .before .before .before .before .before
 
-  none : let a = start .args in editRefusal (badTable (a .file .now) (a .n) (a .table) (a .word)) (a .file .now) (stateOf (a .contents .now) (a .flops .now)) (a .inputs .now) (a .values .now) (a .n) (a .m) ≡ 0
+  none :
+      let a = start .args in
+      editRefusal (badTable (a .file .now) (a .n) (a .table) (a .word)) (a .file .now) (stateOf (a .contents .now) (a .flops .now)) (a .inputs .now) (a .values .now) (a .n) (a .m) ≡ 0
   none = sym (rw (c .before .before .before .before .bad-table .ensures) at (c .before .edit-refusal .ensures)) ∙ c .if1 .left
 
-  fit : let a = start .args in Lengths (a .n) (a .m) (stateOf (a .contents .now) (a .flops .now)) (a .inputs .now) (a .values .now)
-  fit = let a = start .args in edit-lengths (badTable (a .file .now) (a .n) (a .table) (a .word)) (a .file .now) (stateOf (a .contents .now) (a .flops .now)) (a .inputs .now) (a .values .now) (a .n) (a .m) none
-
   there : start .args .table < 4 * start .args .n
-  there =
-      let a = start .args in
-      let good = edit-argument (badTable (a .file .now) (a .n) (a .table) (a .word)) (a .file .now) (stateOf (a .contents .now) (a .flops .now)) (a .inputs .now) (a .values .now) (a .n) (a .m) none in
-      leb-false (4 * a .n) (a .table) (or-left (leb (4 * a .n) (a .table)) (badWord (a .file .now) (a .table) (a .word)) good)
+  there = leb-false _ _ (or-left _ _ (edit-argument _ _ _ _ _ _ _ none))
 
 mul-contents : tie.Need-mul-contents
-mul-contents c = omega (arith, there c, fine (start c) .slices-fit)
+mul-contents c = omega (arith, there c, ready-sound _ (start c .pre) .slices-fit)
 
 slice-write-contents : tie.Need-slice-write-contents
-slice-write-contents c = omega (arith, there c, fit c .contents)
+slice-write-contents c = omega (arith, there c, edit-lengths _ _ _ _ _ _ _ (none c) .contents)
 
 array-write-edited : tie.Need-array-write-edited
-array-write-edited c = omega (arith, there c, fine (start c) .slices-fit)
+array-write-edited c = omega (arith, there c, ready-sound _ (start c .pre) .slices-fit)
 
 slice-aggregate-edit-by : tie.Need-slice-aggregate-edit-by
 slice-aggregate-edit-by c = search needs
@@ -81,7 +72,7 @@ edit-by-requires : tie.Need-edit-by-requires
 edit-by-requires c κs =
     let e = c .before .before .before .before in
     let b = start e in
-    ready-walk (b .args .file .now) (b .pre) (fit e .values)
+    ready-walk (b .args .file .now) (b .pre) (edit-lengths _ _ _ _ _ _ _ (none e) .values)
 
 same-length-3 : tie.Need-same-length-3
 same-length-3 c = search needs
@@ -95,7 +86,7 @@ returns-2 c =
     let e = k .before .before .before .before .before in
     let b = start e in
     done (b .pre .verdict) (none e)
-    (refl, edited-file (b .args .file .now) (b .pre) _ _ (touchesTable (b .args .table)) (marks-one-table 1 (4 * sliceLimit) (b .args .table) (omega (arith, there e, fine b .slices-fit))) (k .edit-by .ensures))
+    (refl, edited-file (b .args .file .now) (b .pre) _ _ (touchesTable (b .args .table)) (marks-one-table 1 (4 * sliceLimit) (b .args .table) (omega (arith, there e, ready-sound _ (b .pre) .slices-fit))) (k .edit-by .ensures))
 
 pub edit-table-accepted-spec : {M : Type 1} → statement M
 edit-table-accepted-spec =

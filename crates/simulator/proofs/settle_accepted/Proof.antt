@@ -4,18 +4,14 @@ use borrow.Author.Needs.{needs}
 use Rattle.netlist.specs.Table.{signalCount, netOf}
 use Rattle.netlist.proofs.Agree.{settled-agree}
 use Rattle.column.specs.File.{gateAt}
-use Rattle.column.proofs.SoundLaws.{SoundFile, sound-file}
 use Rattle.column.proofs.Verdicts.{accepted-sound}
 use Rattle.buffers.specs.Buffers.{settleRefusal}
 use Rattle.column.specs.Clock.{stateOf}
 use Rattle.calls.specs.Calls.{done}
-use Rattle.calls.proofs.Calls.{refused-by, ready-walk}
+use Rattle.calls.proofs.Calls.{refused-by, ready-sound, ready-walk}
 use Rattle.buffers.proofs.Lengths.{settle-lengths}
 use Rattle.simulator.proofs.settle_accepted.Statement.{statement}
 use Rattle.simulator.proofs.settle_accepted.Tie as tie
-
-fine : (c : tie.Start) → SoundFile (c .args .file .now) (c .args .n) (c .args .m)
-fine c = sound-file (c .args .file .now) (accepted-sound (c .args .file .now) (c .pre .verdict))
 
 settle-refusal-requires : tie.Need-settle-refusal-requires
 settle-refusal-requires c κs =
@@ -37,9 +33,7 @@ none c = sym (c .before .settle-refusal .ensures) ∙ c .if1 .left
 settle-by-requires : tie.Need-settle-by-requires
 settle-by-requires c κs =
     let b = c .before .before .before .before .before .before .before .before .before .before .before in
-    let a = b .args in
-    let l = settle-lengths (a .file .now) (stateOf (a .contents .now) (a .flops .now)) (a .inputs .now) (a .values .now) (a .n) (a .m) (none (c .before)) in
-    ready-walk (a .file .now) (b .pre) (l .values)
+    ready-walk (b .args .file .now) (b .pre) (settle-lengths _ _ _ _ _ _ (none (c .before)) .values)
 
 same-length-2 : tie.Need-same-length-2
 same-length-2 c = search needs
@@ -51,7 +45,7 @@ returns-2 c =
     let b = e .before .before .before .before .before .before .before .before .before .before in
     let a = b .args in
     done (b .pre .verdict) (none e)
-    (rw (fine b .count) (settled-agree (netOf (a .net .now) (a .n)) (gateAt (a .file .now)) (signalCount (a .n)) (b .pre .lowered) _ _ (k .settle-by .ensures)))
+    (rw (ready-sound _ (b .pre) .count) (settled-agree (netOf (a .net .now) (a .n)) (gateAt (a .file .now)) (signalCount (a .n)) (b .pre .lowered) _ _ (k .settle-by .ensures)))
 
 pub settle-accepted-spec : {M : Type 1} → statement M
 settle-accepted-spec = tie.close (tie.spec settle-refusal-requires same-length returns settle-by-requires same-length-2 returns-2)
