@@ -16,7 +16,7 @@ use Rattle.recordcalls.proofs.RoundTrip.{read-body-length}
 use Rattle.slicerecord.proofs.Pieces.{below-piece}
 use Rattle.slicerecord.proofs.RoundTrip.{bytes-of-record}
 use Rattle.slicerecord.proofs.Stores.{sets-front}
-use Rattle.quagmuffin.specs.Bodies.{readBodyRefusal, bodyRead, writeBodyRefusal, bodyWritten}
+use Rattle.quagmuffin.specs.Bodies.{readBodyRefusal, bodyRead, ReadInto, writeBodyRefusal, bodyWritten}
 
 -- an answer tells whether there was a refusal
 pub done-none : (k : ℕ) → answerOf k ≡ Done → k ≡ 0
@@ -43,7 +43,7 @@ read-body s n m b e = ap (λ (r : Reading). bodyBytes (r .slice)) (read-done s n
 
 -- a body into which a record was read: the record's own bytes
 pub read-stored : (s : List ℕ) (n m : ℕ) (body : List ℕ) → Below 256 s → length body ≡ bodyLength sliceTag → readRefusal s n m ≡ 0
-    → (Done ≡ answerOf (readRefusal s n m)) × (sets body 0 (bodyOf sliceTag s) ≡ unless (readRefusal s n m) (bodyBytes (readRecord s n m .slice)) body)
+    → ReadInto s n m body (sets body 0 (bodyOf sliceTag s)) Done
 read-stored s n m body b h e =
     let l = read-body-length s n m e in
     let f : sets body 0 (bodyOf sliceTag s) ≡ bodyOf sliceTag s = sets-front body (bodyOf sliceTag s) (length body) (l ∙ sym h) (omega arith) ∙ rw (drop-length body) (append-nil _) in

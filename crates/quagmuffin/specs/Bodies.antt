@@ -6,6 +6,7 @@ use mathlib.Core.List.{List}
 use lib.Dec.{eqb}
 use lib.ListN.{length}
 use Rattle.slicefile.specs.Format.{sliceTag, bodyLength}
+use Rattle.slicefile.specs.declared.Answer.{Answer}
 use Rattle.rules.specs.Rules.{given, _orElse_}
 use Rattle.slicerecord.specs.Record.{recordOf, bodyBytes}
 use Rattle.recordcalls.specs.Calls.{readRefusal, writeRefusal, answerOf, unless, readRecord, written}
@@ -20,6 +21,11 @@ readBodyRefusal s n m body = given 10 (badBody body) orElse readRefusal s n m
 
 unfoldable pub bodyRead : List ℕ → ℕ → ℕ → List ℕ → List ℕ
 bodyRead s n m body = unless (readBodyRefusal s n m body) (bodyBytes (readRecord s n m .slice)) body
+
+-- the same into a body of its length: the answer, and the body it leaves
+abbrev pub ReadInto : List ℕ → ℕ → ℕ → List ℕ → List ℕ → Answer → Type 0
+ReadInto s n m old new answer =
+    (answer ≡ answerOf (readRefusal s n m)) × (new ≡ unless (readRefusal s n m) (bodyBytes (readRecord s n m .slice)) old)
 
 -- writing the record of a body: the refusal, and the part it leaves
 unfoldable pub writeBodyRefusal : List ℕ → ℕ → ℕ → List ℕ → ℕ

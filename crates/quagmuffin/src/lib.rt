@@ -4,14 +4,11 @@ ghost use Prim.Native.Nat.{_≤_};
 ghost use lib.ListN.{length};
 ghost use Rattle.lent.specs.Lent.{was, left};
 ghost use Rattle.slicefile.specs.Format.{sliceTag, bodyLength};
-ghost use Rattle.column.specs.Clock.{stateOf};
 ghost use Rattle.column.specs.Judge.{Judged};
-ghost use Rattle.calls.specs.Calls.{PoweredUp};
-ghost use Rattle.simulator.specs.Running.{SettleCalled, ClockCalled};
-ghost use Rattle.edits.specs.Edits.{InputEdited, TableEdited};
-ghost use Rattle.slicerecord.specs.Record.{bodyBytes};
-ghost use Rattle.recordcalls.specs.Calls.{readRefusal, answerOf, unless, readRecord};
-ghost use Rattle.quagmuffin.specs.Bodies.{RecordRead, RecordWritten};
+ghost use Rattle.calls.specs.Calls.{PowersUp};
+ghost use Rattle.simulator.specs.Running.{Settles, Clocks};
+ghost use Rattle.edits.specs.Edits.{EditsInput, EditsTable};
+ghost use Rattle.quagmuffin.specs.Bodies.{ReadInto, RecordRead, RecordWritten};
 ghost use Rattle.quagmuffin.specs.Packed.{pack, packAnswer, packVerdict, SmallAnswer, SmallVerdict, Packed, Answered};
 use column::Verdict;
 use slicefile::Answer;
@@ -60,7 +57,7 @@ pub extern "C" fn qm_judge(file: &[u8]) -> u64
 // Fills 4n words of contents and n flip-flop bytes with the state at power-up.
 #[no_mangle]
 pub extern "C" fn qm_power_up(file: &[u8], contents: &mut [u64], flops: &mut [u8]) -> u64
-    ensures { λ r. ⌜ Answered (PoweredUp (was file) (stateOf (was contents) (was flops)) (stateOf (left contents) (left flops))) r ⌝ }
+    ensures { λ r. ⌜ Answered (PowersUp file contents flops) r ⌝ }
 {
     pack_answer(calls::power_up(file, contents, flops))
 }
@@ -74,7 +71,7 @@ pub extern "C" fn qm_settle(
     inputs: &[u8],
     values: &mut [u8],
 ) -> u64
-    ensures { λ r. ⌜ Answered (SettleCalled (was file) (stateOf (was contents) (was flops)) (was inputs) (was values) (left values)) r ⌝ }
+    ensures { λ r. ⌜ Answered (Settles file contents flops inputs values) r ⌝ }
 {
     pack_answer(simulator::settle(file, contents, flops, inputs, values))
 }
@@ -88,7 +85,7 @@ pub extern "C" fn qm_clock(
     inputs: &[u8],
     values: &mut [u8],
 ) -> u64
-    ensures { λ r. ⌜ Answered (ClockCalled (was file) (stateOf (was contents) (was flops)) (stateOf (left contents) (left flops)) (was inputs) (was values) (left values)) r ⌝ }
+    ensures { λ r. ⌜ Answered (Clocks file contents flops inputs values) r ⌝ }
 {
     pack_answer(simulator::clock(file, contents, flops, inputs, values))
 }
@@ -104,7 +101,7 @@ pub extern "C" fn qm_edit_input(
     input: usize,
     byte: u8,
 ) -> u64
-    ensures { λ r. ⌜ Answered (InputEdited (was file) (stateOf (was contents) (was flops)) input byte (was inputs) (left inputs) (was values) (left values)) r ⌝ }
+    ensures { λ r. ⌜ Answered (EditsInput file contents flops inputs values input byte) r ⌝ }
 {
     pack_answer(edits::edit_input(file, contents, flops, inputs, values, input, byte))
 }
@@ -120,7 +117,7 @@ pub extern "C" fn qm_edit_table(
     table: usize,
     word: u64,
 ) -> u64
-    ensures { λ r. ⌜ Answered (TableEdited (was file) (was contents) (left contents) (was flops) table word (was inputs) (was values) (left values)) r ⌝ }
+    ensures { λ r. ⌜ Answered (EditsTable file contents flops inputs values table word) r ⌝ }
 {
     pack_answer(edits::edit_table(file, contents, flops, inputs, values, table, word))
 }
@@ -128,7 +125,7 @@ pub extern "C" fn qm_edit_table(
 // Reads a record, and fills a body with its fields.
 fn read_body(bytes: &[u8], n: usize, m: usize, body: &mut [u8]) -> Answer
     requires { ⌜ length (now body) ≡ bodyLength sliceTag ⌝ }
-    ensures { λ r. ⌜ (r ≡ answerOf (readRefusal (was bytes) n m)) × (left body ≡ unless (readRefusal (was bytes) n m) (bodyBytes (readRecord (was bytes) n m .slice)) (was body)) ⌝ }
+    ensures { λ r. ⌜ ReadInto (was bytes) n m (was body) (left body) r ⌝ }
 {
     let reading = recordcalls::read_record(bytes, n, m);
     let answer = reading.answer;
