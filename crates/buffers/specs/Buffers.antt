@@ -34,12 +34,14 @@ badWords file contents = anyBelow (length contents) (λ t. badWord file t (getD 
 
 -- settling and clocking: "bytes that are only filled (values in settle and clock; all in power up) are not judged"
 unfoldable pub settleRefusal : List ℕ → State → List ℕ → List ℕ → ℕ → ℕ → ℕ
-settleRefusal file st inputs values n m = given 10 (badLengths n m st inputs values) orElse given 11 (badBytes inputs || badWords file (st .contents))
+settleRefusal file st inputs values n m =
+    given 10 (badLengths n m st inputs values) orElse given 11 (badBytes inputs || badWords file (st .contents))
 
 -- an edit, whose own argument is bad or not
 unfoldable pub editRefusal : Bool → List ℕ → State → List ℕ → List ℕ → ℕ → ℕ → ℕ
 editRefusal argument file st inputs values n m =
-    given 10 (badLengths n m st inputs values) orElse given 11 (badBytes inputs || badBytes values || badWords file (st .contents) || argument)
+    given 10 (badLengths n m st inputs values)
+    orElse given 11 (badBytes inputs || badBytes values || badWords file (st .contents) || argument)
 
 -- "an outside input below m", and a byte 0 or 1 for it
 abbrev pub badInput : ℕ → ℕ → ℕ → Bool

@@ -2,7 +2,6 @@
 use mathlib.Core.Path.{_≡_, refl, sym}
 use mathlib.Core.List.{List}
 use Prim.Native.Nat.{ℕ, zero, suc}
-use native.Mathlib.Omega.{arith}
 use lib.ListN.{length, take}
 use Rattle.netlist.specs.Table.{signalCount, netOf}
 use Rattle.netlist.proofs.Agree.{agree-sym, ordered-agree}
@@ -40,11 +39,8 @@ ready-sound file r = sound-file file (accepted-sound file (r .verdict))
 -- what a walk along the order asks for
 pub ready-walk : (file : List ℕ) {n m : ℕ} {net order values : List ℕ} → Ready file n m net order → length values ≡ signalCount n → Walkable n net order values
 ready-walk file {n} {net = net} {order} r size =
-    let few = ready-sound file r .slices-fit in
     record {
-      few = omega arith;
-      net-fits = r .net-fits;
-      order-fits = r .order-fits;
+      table = r .table;
       ordered = ordered-agree (gateAt file) (netOf net n) (signalCount n) (agree-sym (r .lowered)) (take (signalCount n) order) (r .ordered);
-      values = size;
+      size = size;
     }

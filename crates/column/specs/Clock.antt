@@ -57,7 +57,8 @@ SettledFor file st inputs values = Settled (gateAt file) (signalCount (sliceCoun
 
 -- "exactly one such table": this one is settled, and every settled table is this one
 abbrev pub OnlySettled : List ℕ → State → List ℕ → List ℕ → Type 0
-OnlySettled file st inputs values = SettledFor file st inputs values × ((fresh : List ℕ) → SettledFor file st inputs fresh → values ≡ fresh)
+OnlySettled file st inputs values =
+    SettledFor file st inputs values × ((fresh : List ℕ) → SettledFor file st inputs fresh → values ≡ fresh)
 
 -- K clocks from a state, with the outside inputs of each clock: the states before each edge and after the last, and the tables settled before
 -- each edge

@@ -1,11 +1,11 @@
 -- A file compiled: its netlist in the gate table, and the answer of the search for loops.
-use Prim.Native.Nat.{ℕ, _≤_}
+use Prim.Native.Nat.{ℕ}
 use mathlib.Core.List.{List}
-use lib.ListN.{length, take}
+use lib.ListN.{take}
 use Rattle.netlist.specs.Agree.{Agree}
 use Rattle.netlist.specs.Graph.{Ordered}
 use Rattle.toposort.specs.Answer.{OrderOrLoop}
-use Rattle.netlist.specs.Table.{signalCount, tableLength, gateOf, netOf}
+use Rattle.netlist.specs.Table.{signalCount, tableLength, IsTable, gateOf, netOf}
 use Rattle.toposort.specs.declared.Sorted.{Sorted}
 use Rattle.slicefile.specs.Format.{sliceLimit}
 use Rattle.column.specs.File.{gateAt}
@@ -29,8 +29,7 @@ pub record Compiled (file : List ℕ) (n : ℕ) (table order : List ℕ) (r : So
 -- what the calls on an accepted file run on: its gate table and a topological order of its signals, at the front of two buffers
 pub record Ready (file : List ℕ) (n m : ℕ) (net order : List ℕ) : Type 0 where
   pub verdict : Judged file (Accepted n m)
-  pub net-fits : tableLength n ≤ length net
-  pub order-fits : signalCount n ≤ length order
+  pub table : IsTable n (take (tableLength n) net)
   pub lowered : Agree (netOf net n) (gateAt file) (signalCount n)
   pub ordered : Ordered (readsAt file) (signalCount n) (take (signalCount n) order)
 

@@ -18,7 +18,8 @@ use Rattle.calls.specs.Calls.{Called}
 
 -- the value table that an edit leaves, for the state and inputs after it: what depends on the change is recomputed, all else keeps its byte
 abbrev pub EditedFor : List ℕ → (Gate → Bool) → State → List ℕ → List ℕ → List ℕ → ℕ → Type 0
-EditedFor file touches st inputs old new n = Edited (gateAt file) (signalCount n) (envOf st inputs) (λ x. touches (gateAt file x)) old new
+EditedFor file touches st inputs old new n =
+    Edited (gateAt file) (signalCount n) (envOf st inputs) (λ x. touches (gateAt file x)) old new
 
 -- "edit an input": leaves its new byte, and the values
 abbrev pub InputEdited : List ℕ → State → ℕ → ℕ → List ℕ → List ℕ → List ℕ → List ℕ → Answer → Type 0
@@ -29,7 +30,8 @@ InputEdited file st input byte inputs inputs′ old new =
 -- "edit a table's contents": leaves its new word, and the values
 abbrev pub TableEdited : List ℕ → List ℕ → List ℕ → List ℕ → ℕ → ℕ → List ℕ → List ℕ → List ℕ → Answer → Type 0
 TableEdited file contents contents′ flops table word inputs old new =
-    Called file (λ n m. editRefusal (badTable file n table word) file (stateOf contents flops) inputs old n m) ((contents′ ≡ contents) × (new ≡ old))
+    Called file (λ n m. editRefusal (badTable file n table word) file (stateOf contents flops) inputs old n m)
+    ((contents′ ≡ contents) × (new ≡ old))
     (λ n m. (contents′ ≡ set contents table word) × EditedFor file (touchesTable table) (stateOf contents′ flops) inputs old new n)
 
 -- the two calls' promises on lent buffers, as they were and as they are left

@@ -1,5 +1,4 @@
 // The calls on a slice file and lent buffers that change it as it runs: edit an input, edit a table's contents.
-ghost use mathlib.Core.Path.{_≡_};
 ghost use Rattle.column.specs.Compile.{Ready};
 ghost use Rattle.edits.specs.Edits.{EditsInput, EditsTable};
 use column::TABLE_LIMIT;

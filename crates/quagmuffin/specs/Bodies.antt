@@ -36,7 +36,9 @@ bodyWritten body n m part = unless (given 10 (badBody body)) (written (recordOf 
 
 -- what the two calls answer and leave
 abbrev pub RecordRead : List ℕ → ℕ → ℕ → List ℕ → List ℕ → ℕ → Type 0
-RecordRead s n m old new number = (number ≡ packAnswer (answerOf (readBodyRefusal s n m old))) × (new ≡ bodyRead s n m old)
+RecordRead s n m old new number =
+    (number ≡ packAnswer (answerOf (readBodyRefusal s n m old))) × (new ≡ bodyRead s n m old)
 
 abbrev pub RecordWritten : List ℕ → ℕ → ℕ → List ℕ → List ℕ → ℕ → Type 0
-RecordWritten body n m old new number = (number ≡ packAnswer (answerOf (writeBodyRefusal body n m old))) × (new ≡ bodyWritten body n m old)
+RecordWritten body n m old new number =
+    (number ≡ packAnswer (answerOf (writeBodyRefusal body n m old))) × (new ≡ bodyWritten body n m old)

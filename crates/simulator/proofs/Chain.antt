@@ -28,7 +28,7 @@ use Rattle.buffers.specs.Buffers.{badState, badWord, settleRefusal, GoodState, 
 use Rattle.buffers.proofs.Good.{state-good, words-good, good-words, settle-good, settle-tells, settled-good}
 use Rattle.buffers.proofs.Lengths.{state-lengths}
 use Rattle.calls.specs.Calls.{done, PoweredUp}
-use Rattle.calls.proofs.Demands.{not-refused, called-done, done-there, power-up-leaves}
+use Rattle.calls.proofs.Demands.{called-done, done-there, not-refused, power-up-leaves}
 use Rattle.simulator.specs.Running.{SettleCalled, ClockCalled}
 use Rattle.simulator.proofs.Demands.{clocks-run}
 

@@ -1,10 +1,9 @@
 -- `column::load_sound` meets its contract: a signal on a loop is refused, and an order shows that there is none. Assumes nothing.
 use mathlib.Core.Path.{_≡_, _∙_, sym, subst}
-use mathlib.Core.List.{List, _++_}
-use Prim.Native.Nat.{ℕ, _≤_}
+use Prim.Native.Nat.{_≤_}
 use native.Mathlib.Omega.{arith}
 use borrow.Author.Needs.{needs}
-use lib.ListN.{length, length-append, take}
+use lib.ListN.{length, take}
 use lib.Seq.{take-at, length-take-le}
 use Rattle.netlist.proofs.Order.{loop-free}
 use Rattle.netlist.specs.Table.{signalCount, tableLength}
@@ -48,10 +47,6 @@ slice-aggregate-compile-2 c = sym (signals (c .before .before))
 compile-requires : tie.Need-compile-requires
 compile-requires c κs = (c .before .before .before .before .before .pre .0, (numbers (c .before .before), signals (c .before .before)))
 
--- what is left at the front of a buffer
-front : (a b : List ℕ) (k : ℕ) → length a ≡ k → (k ≤ length (a ++ b)) × (take k (a ++ b) ≡ a)
-front a b k e = (omega (arith, length-append a b), take-at a b k e)
-
 -- what the answer of `compile` says, for each case of it
 Says : (c : tie.After-compile) → Sorted → Type 0
 Says c r =
@@ -89,14 +84,12 @@ returns-2 c =
     let k = c .before .before .before .before .before .before in
     let s = k .before .before .before in
     let o = subst (Says k) (c .enum-told .given .1) (k .compile .ensures .sorted) in
-    let table = front (k .compile .last .1 .1 .1 .0) _ _ (k .compile .kept .1 .1 .1 .0 ∙ numbers s) in
-    let order = front (k .compile .last .1 .1 .1 .1 .0) _ _ (k .compile .kept .1 .1 .1 .1 .0 ∙ signals s) in
+    let sized = k .compile .kept .1 .1 .1 .0 ∙ numbers s in
     record {
       verdict = accepted (s .before .before .before .pre .0) (loop-free o);
-      net-fits = table .0;
-      order-fits = order .0;
-      lowered = rw (table .1) (k .compile .ensures .lowered);
-      ordered = rw (order .1) o;
+      table = rw (take-at (k .compile .last .1 .1 .1 .0) _ _ sized) (omega (arith, few s), sized);
+      lowered = rw (take-at (k .compile .last .1 .1 .1 .0) _ _ sized) (k .compile .ensures .lowered);
+      ordered = rw (take-at (k .compile .last .1 .1 .1 .1 .0) _ _ (k .compile .kept .1 .1 .1 .1 .0 ∙ signals s)) o;
     }
 
 pub load-sound-spec : {M : Type 1} → statement M

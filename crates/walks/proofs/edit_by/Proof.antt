@@ -10,7 +10,7 @@ use Rattle.netlist.specs.Table.{signalLimit, signalCount, gateOf}
 use Rattle.netlist.specs.Invariant.{EditedTo}
 use Rattle.netlist.proofs.Editing.{edit-none, edit-reached, edit-passed, edit-all}
 use Rattle.walks.specs.Marked.{touchesMarked}
-use Rattle.walks.proofs.Place.{place-below, front-table}
+use Rattle.walks.proofs.Place.{place-below}
 use Rattle.walks.proofs.edit_by.Statement.{statement}
 use Rattle.walks.proofs.edit_by.Tie as tie
 
@@ -38,7 +38,7 @@ mul-table : tie.Need-mul-table Inv-loop μ-loop
 mul-table c = search needs
 
 slice-aggregate-table : tie.Need-slice-aggregate-table Inv-loop μ-loop
-slice-aggregate-table c = sym (front-table (c .before .before .before .before .before .before .before .before .before .pre) .1)
+slice-aggregate-table c = sym (c .before .before .before .before .before .before .before .before .before .pre .table .1)
 
 mul-turns : tie.Need-mul-turns Inv-loop μ-loop
 mul-turns c = search needs
@@ -62,10 +62,10 @@ slice-aggregate-gate-reached : tie.Need-slice-aggregate-gate-reached Inv-loop μ
 slice-aggregate-gate-reached c = search needs
 
 gate-reached-requires : tie.Need-gate-reached-requires Inv-loop μ-loop
-gate-reached-requires c κs = let k = c .before .before in (front-table (start k .pre), turn k .1)
+gate-reached-requires c κs = let k = c .before .before in (start k .pre .table, turn k .1)
 
 gate-value-requires : tie.Need-gate-value-requires Inv-loop μ-loop
-gate-value-requires c κs = let k = c .before .before .before .before .before in (front-table (start k .pre), turn k .1)
+gate-value-requires c κs = let k = c .before .before .before .before .before in (start k .pre .table, turn k .1)
 
 array-write-marks : tie.Need-array-write-marks Inv-loop μ-loop
 array-write-marks c = omega (arith, turn (c .before .before .before .before .before .before))

@@ -8,7 +8,7 @@ use Rattle.netlist.specs.Rule.{env}
 use Rattle.netlist.specs.Table.{signalCount, gateOf}
 use Rattle.netlist.specs.Invariant.{SettledTo}
 use Rattle.netlist.proofs.Settling.{settle-none, settle-next, settle-all}
-use Rattle.walks.proofs.Place.{place-below, front-table}
+use Rattle.walks.proofs.Place.{place-below}
 use Rattle.walks.proofs.settle_by.Statement.{statement}
 use Rattle.walks.proofs.settle_by.Tie as tie
 
@@ -33,7 +33,7 @@ mul-table : tie.Need-mul-table Inv-loop μ-loop
 mul-table c = search needs
 
 slice-aggregate-table : tie.Need-slice-aggregate-table Inv-loop μ-loop
-slice-aggregate-table c = sym (front-table (c .before .before .before .before .before .before .before .pre) .1)
+slice-aggregate-table c = sym (c .before .before .before .before .before .before .before .pre .table .1)
 
 mul-turns : tie.Need-mul-turns Inv-loop μ-loop
 mul-turns c = search needs
@@ -44,7 +44,7 @@ slice-aggregate-turns c = sym (c .before .before .before .before .before .before
 loop-holds : tie.Need-loop-holds Inv-loop μ-loop
 loop-holds c =
     let w = c .before .before .before .before .before .before .before .before .pre in
-    (search needs, w .values, settle-none _ (w .ordered) _ _)
+    (search needs, w .size, settle-none _ (w .ordered) _ _)
 
 mul-x : tie.Need-mul-x Inv-loop μ-loop
 mul-x c = search needs
@@ -56,7 +56,7 @@ cast-x : tie.Need-cast-x Inv-loop μ-loop
 cast-x c = omega (arith, turn (c .before))
 
 gate-value-requires : tie.Need-gate-value-requires Inv-loop μ-loop
-gate-value-requires c κs = let k = c .before .before in (front-table (start k .pre), turn k .1)
+gate-value-requires c κs = let k = c .before .before in (start k .pre .table, turn k .1)
 
 slice-write-values : tie.Need-slice-write-values Inv-loop μ-loop
 slice-write-values c = omega (arith, turn (c .before .before .before))
