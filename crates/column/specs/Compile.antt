@@ -5,7 +5,7 @@ use lib.ListN.{take}
 use Rattle.netlist.specs.Agree.{Agree}
 use Rattle.netlist.specs.Graph.{Ordered}
 use Rattle.toposort.specs.Answer.{OrderOrLoop}
-use Rattle.netlist.specs.Table.{signalCount, tableLength, IsTable, gateOf, netOf}
+use Rattle.netlist.specs.Table.{signalCount, tableLength, IsTable, gateOf}
 use Rattle.toposort.specs.declared.Sorted.{Sorted}
 use Rattle.slicefile.specs.Format.{sliceLimit}
 use Rattle.column.specs.File.{gateAt}
@@ -30,7 +30,7 @@ pub record Compiled (file : List ℕ) (n : ℕ) (table order : List ℕ) (r : So
 pub record Ready (file : List ℕ) (n m : ℕ) (net order : List ℕ) : Type 0 where
   pub verdict : Judged file (Accepted n m)
   pub table : IsTable n (take (tableLength n) net)
-  pub lowered : Agree (netOf net n) (gateAt file) (signalCount n)
+  pub lowered : Lowered file n (take (tableLength n) net)
   pub ordered : Ordered (readsAt file) (signalCount n) (take (signalCount n) order)
 
 -- a file judged and loaded

@@ -44,7 +44,7 @@ returns : tie.Need-returns
 returns c =
     let s = start (c .before .before .before) in
     c .contents-bit .ensures ∙ ap (bitAt (getD (s .args .contents .now) (getD (s .args .table .now) (rowLength * s .args .x) 0) 0)) (c .before .number-on .ensures .0)
-    ∙ sym (rule-lut (on s) (s .args .values .now) (s .args .table .now) (s .args .n) (s .args .x) (c .before .before .if1 .taken))
+    ∙ sym (rule-lut (on s) _ _ _ _ (c .before .before .if1 .taken))
 
 mul-if2 : tie.Need-mul-if2
 mul-if2 c = search needs
@@ -52,7 +52,7 @@ mul-if2 c = search needs
 returns-2 : tie.Need-returns-2
 returns-2 c =
     let s = start (c .before .before) in
-    sym (rule-zero (on s) (s .args .values .now) (s .args .table .now) (s .args .n) (s .args .x) (c .before .if1 .left) (c .if2 .taken))
+    sym (rule-zero (on s) _ _ _ _ (c .before .if1 .left) (c .if2 .taken))
 
 mul-if3 : tie.Need-mul-if3
 mul-if3 c = search needs
@@ -70,7 +70,7 @@ returns-3 : tie.Need-returns-3
 returns-3 c =
     let e = c .before .before in
     let s = start (e .before .before) in
-    c .stored-bit .ensures ∙ sym (rule-stored (on s) (s .args .values .now) (s .args .table .now) (s .args .n) (s .args .x) (e .before .if1 .left) (e .if2 .left) (c .before .if3 .taken))
+    c .stored-bit .ensures ∙ sym (rule-stored (on s) _ _ _ _ (e .before .if1 .left) (e .if2 .left) (c .before .if3 .taken))
 
 add-code-value : tie.Need-add-code-value
 add-code-value c = search needs
@@ -106,7 +106,7 @@ returns-4 c =
     let s = start (e .before .before .before) in
     c .code-value2 .ensures .0
     ∙ sym (choose-zero _ _ _ (sym (f .code-value .ensures .0) ∙ c .before .before .if5 .taken))
-    ∙ sym (rule-select (on s) (s .args .values .now) (s .args .table .now) (s .args .n) (s .args .x) (e .before .before .if1 .left) (e .before .if2 .left) (e .if3 .left) (c .before .before .before .if4 .taken))
+    ∙ sym (rule-select (on s) _ _ _ _ (e .before .before .if1 .left) (e .before .if2 .left) (e .if3 .left) (c .before .before .before .if4 .taken))
 
 add-code-value-3 : tie.Need-add-code-value-3
 add-code-value-3 c = search needs
@@ -127,7 +127,7 @@ returns-5 c =
     let s = start (e .before .before .before) in
     c .code-value3 .ensures .0
     ∙ sym (choose-other _ _ _ (λ z. c .before .before .if5 .left (f .code-value .ensures .0 ∙ z)))
-    ∙ sym (rule-select (on s) (s .args .values .now) (s .args .table .now) (s .args .n) (s .args .x) (e .before .before .if1 .left) (e .before .if2 .left) (e .if3 .left) (c .before .before .before .if4 .taken))
+    ∙ sym (rule-select (on s) _ _ _ _ (e .before .before .if1 .left) (e .before .if2 .left) (e .if3 .left) (c .before .before .before .if4 .taken))
 
 mul-if6 : tie.Need-mul-if6
 mul-if6 c = search needs
@@ -157,7 +157,7 @@ returns-6 c =
     let e = f .before .before in
     let s = start (e .before .before .before) in
     ap₂ (λ (a b : ℕ). (a + b) % 2) (f .code-value .ensures .0) (c .code-value4 .ensures .0)
-    ∙ sym (rule-xor (on s) (s .args .values .now) (s .args .table .now) (s .args .n) (s .args .x) (e .before .before .if1 .left) (e .before .if2 .left) (e .if3 .left) (t .before .if4 .left) (t .if6 .taken))
+    ∙ sym (rule-xor (on s) _ _ _ _ (e .before .before .if1 .left) (e .before .if2 .left) (e .if3 .left) (t .before .if4 .left) (t .if6 .taken))
 
 returns-7 : tie.Need-returns-7
 returns-7 c =
@@ -165,7 +165,7 @@ returns-7 c =
     let e = f .before .before in
     let s = start (e .before .before .before) in
     f .code-value .ensures .0
-    ∙ sym (rule-same (on s) (s .args .values .now) (s .args .table .now) (s .args .n) (s .args .x) (e .before .before .if1 .left) (e .before .if2 .left) (e .if3 .left) (c .before .if4 .left) (c .if6 .left))
+    ∙ sym (rule-same (on s) _ _ _ _ (e .before .before .if1 .left) (e .before .if2 .left) (e .if3 .left) (c .before .if4 .left) (c .if6 .left))
 
 pub gate-value-spec : {M : Type 1} → statement M
 gate-value-spec =

@@ -38,8 +38,7 @@ any-reached-requires c κs = search needs
 
 returns : tie.Need-returns
 returns c =
-    let a = start (c .before .before .before) .args in
-    or-both (c .any-reached .ensures) (c .before .is-marked .ensures) ∙ reached-lut (a .changed .now) (a .edited .now) (a .marks .now) (a .table .now) (a .n) (a .x) (c .before .before .if1 .taken)
+    or-both (c .any-reached .ensures) (c .before .is-marked .ensures) ∙ reached-lut _ _ _ _ _ _ (c .before .before .if1 .taken)
 
 mul-if2 : tie.Need-mul-if2
 mul-if2 c = search needs
@@ -55,16 +54,14 @@ is-marked-requires-2 c κs = search needs
 
 returns-2 : tie.Need-returns-2
 returns-2 c =
-    let a = start (c .before .before .before) .args in
-    c .is-marked2 .ensures ∙ reached-zero (a .changed .now) (a .edited .now) (a .marks .now) (a .table .now) (a .n) (a .x) (c .before .before .if1 .left) (c .before .if2 .taken)
+    c .is-marked2 .ensures ∙ reached-zero _ _ _ _ _ _ (c .before .before .if1 .left) (c .before .if2 .taken)
 
 mul-if3 : tie.Need-mul-if3
 mul-if3 c = search needs
 
 returns-3 : tie.Need-returns-3
 returns-3 c =
-    let a = start (c .before .before .before) .args in
-    reached-stored (a .changed .now) (a .edited .now) (a .marks .now) (a .table .now) (a .n) (a .x) (c .before .before .if1 .left) (c .before .if2 .left) (c .if3 .taken)
+    reached-stored _ _ _ _ _ _ (c .before .before .if1 .left) (c .before .if2 .left) (c .if3 .taken)
 
 mul-if4 : tie.Need-mul-if4
 mul-if4 c = search needs
@@ -78,8 +75,7 @@ any-reached-requires-2 c κs = search needs
 returns-4 : tie.Need-returns-4
 returns-4 c =
     let e = c .before .before in
-    let a = start (e .before .before .before) .args in
-    c .any-reached2 .ensures ∙ reached-select (a .changed .now) (a .edited .now) (a .marks .now) (a .table .now) (a .n) (a .x) (e .before .before .if1 .left) (e .before .if2 .left) (e .if3 .left) (c .before .if4 .taken)
+    c .any-reached2 .ensures ∙ reached-select _ _ _ _ _ _ (e .before .before .if1 .left) (e .before .if2 .left) (e .if3 .left) (c .before .if4 .taken)
 
 mul-if5 : tie.Need-mul-if5
 mul-if5 c = search needs
@@ -96,8 +92,7 @@ any-reached-requires-3 c κs = search needs
 returns-5 : tie.Need-returns-5
 returns-5 c =
     let e = c .before .before .before in
-    let a = start (e .before .before .before) .args in
-    c .any-reached3 .ensures ∙ reached-xor (a .changed .now) (a .edited .now) (a .marks .now) (a .table .now) (a .n) (a .x) (e .before .before .if1 .left) (e .before .if2 .left) (e .if3 .left) (c .before .before .if4 .left) (c .before .if5 .taken)
+    c .any-reached3 .ensures ∙ reached-xor _ _ _ _ _ _ (e .before .before .if1 .left) (e .before .if2 .left) (e .if3 .left) (c .before .before .if4 .left) (c .before .if5 .taken)
 
 add-code-reached : tie.Need-add-code-reached
 add-code-reached c = search needs
@@ -115,8 +110,7 @@ returns-6 : tie.Need-returns-6
 returns-6 c =
     let f = c .before .before in
     let e = f .before .before in
-    let a = start (e .before .before .before) .args in
-    c .code-reached .ensures ∙ reached-same (a .changed .now) (a .edited .now) (a .marks .now) (a .table .now) (a .n) (a .x) (e .before .before .if1 .left) (e .before .if2 .left) (e .if3 .left) (f .before .if4 .left) (f .if5 .left)
+    c .code-reached .ensures ∙ reached-same _ _ _ _ _ _ (e .before .before .if1 .left) (e .before .if2 .left) (e .if3 .left) (f .before .if4 .left) (f .if5 .left)
 
 pub gate-reached-spec : {M : Type 1} → statement M
 gate-reached-spec =
