@@ -4,10 +4,9 @@ ghost use Prim.Native.Nat.{_*_, _<_, _≤_};
 ghost use lib.ListN.{length};
 ghost use Rattle.lent.specs.Lent.{was};
 ghost use Rattle.slicefile.specs.Format.{sliceLimit};
-ghost use Rattle.column.specs.Check.{checkFile};
+ghost use Rattle.column.specs.Check.{IsSound};
 ghost use Rattle.column.specs.Clock.{stateWas};
 ghost use Rattle.buffers.specs.Buffers.{badState, badLengths, badBytes, badWord, badWords, settleRefusal, editRefusal, badTable};
-use column::Checked;
 use netlist::SLICE_SIGNALS;
 use slicefile::MODE;
 
@@ -49,7 +48,7 @@ fn bad_bytes(bytes: &[u8]) -> bool
 
 // Whether a word has bits 32 to 63 set while table t of a sound file is in shift mode.
 fn bad_word(file: &[u8], n: usize, m: usize, t: usize, word: u64) -> bool
-    requires { ⌜ (checkFile (now file) ≡ Checked.Sound n m) × (t < 4 * n) ⌝ }
+    requires { ⌜ IsSound (now file) n m × (t < 4 * n) ⌝ }
     ensures { λ r. ⌜ r ≡ badWord (was file) t word ⌝ }
 {
     let body = column::slice_body(file, n, m, t / 4);
@@ -58,7 +57,7 @@ fn bad_word(file: &[u8], n: usize, m: usize, t: usize, word: u64) -> bool
 
 // Whether any word does.
 fn bad_words(file: &[u8], n: usize, m: usize, contents: &[u64]) -> bool
-    requires { ⌜ (checkFile (now file) ≡ Checked.Sound n m) × (length (now contents) ≡ 4 * n) ⌝ }
+    requires { ⌜ IsSound (now file) n m × (length (now contents) ≡ 4 * n) ⌝ }
     ensures { λ r. ⌜ r ≡ badWords (was file) (was contents) ⌝ }
 {
     let mut found = false;
@@ -72,7 +71,7 @@ fn bad_words(file: &[u8], n: usize, m: usize, contents: &[u64]) -> bool
 
 // Whether a table is not there, or its mode does not allow the word.
 pub fn bad_table(file: &[u8], n: usize, m: usize, table: usize, word: u64) -> bool
-    requires { ⌜ checkFile (now file) ≡ Checked.Sound n m ⌝ }
+    requires { ⌜ IsSound (now file) n m ⌝ }
     ensures { λ r. ⌜ r ≡ badTable (was file) n table word ⌝ }
 {
     if 4 * n <= table {
@@ -91,7 +90,7 @@ pub fn settle_refusal(
     inputs: &[u8],
     values: &[u8],
 ) -> usize
-    requires { ⌜ checkFile (now file) ≡ Checked.Sound n m ⌝ }
+    requires { ⌜ IsSound (now file) n m ⌝ }
     ensures { λ r. ⌜ r ≡ settleRefusal (was file) (stateWas contents flops) (was inputs) (was values) n m ⌝ }
 {
     if bad_lengths(n, m, contents, flops, inputs, values) {
@@ -117,7 +116,7 @@ pub fn edit_refusal(
     inputs: &[u8],
     values: &[u8],
 ) -> usize
-    requires { ⌜ checkFile (now file) ≡ Checked.Sound n m ⌝ }
+    requires { ⌜ IsSound (now file) n m ⌝ }
     ensures { λ r. ⌜ r ≡ editRefusal bad (was file) (stateWas contents flops) (was inputs) (was values) n m ⌝ }
 {
     let number = settle_refusal(file, n, m, contents, flops, inputs, values);

@@ -4,14 +4,14 @@ use mathlib.Core.List.{List}
 use Prim.Native.Nat.{ℕ, _*_, _/_, _%_}
 use native.Mathlib.Omega.{arith}
 use lib.ListN.{length}
-use Rattle.slicefile.specs.Format.{contentsWord}
+use Rattle.slicefile.specs.Format.{sliceCount, contentsWord}
 use Rattle.slicefile.specs.declared.Answer.{Answer}
 use Rattle.slicefile.proofs.Tabulate.{tabulate-length, tabulate-at}
 use Rattle.slicefile.specs.declared.Answer.the-variants.{Refused as AnswerRefused, Done}
 use Rattle.rules.specs.Rules.{given}
 use Rattle.rules.proofs.Letters.{shift-fits}
 use Rattle.column.specs.Clock.{State, powerUp}
-use Rattle.column.specs.File.{sliceCount, sliceBody}
+use Rattle.column.specs.File.{sliceBody}
 use Rattle.column.specs.Judge.{Judged}
 use Rattle.column.specs.declared.Verdict.{Verdict}
 use Rattle.column.specs.declared.Verdict.the-variants.{Refused, Accepted}

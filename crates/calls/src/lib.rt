@@ -3,11 +3,10 @@ ghost use mathlib.Core.Path.{_≡_};
 ghost use Prim.Native.Nat.{_*_};
 ghost use lib.ListN.{length};
 ghost use Rattle.lent.specs.Lent.{was, left};
-ghost use Rattle.column.specs.Check.{checkFile};
+ghost use Rattle.column.specs.Check.{IsSound};
 ghost use Rattle.column.specs.Clock.{powerUp};
 ghost use Rattle.column.specs.Judge.{Judged};
 ghost use Rattle.calls.specs.Calls.{refusalOf, PowersUp};
-use column::Checked;
 use column::Verdict;
 use slicefile::Answer;
 use slicefile::POWER_UP;
@@ -24,7 +23,7 @@ pub fn refusal(v: Verdict) -> Answer
 
 // Fills the contents with those of a sound file.
 fn fill_contents(file: &[u8], n: usize, m: usize, contents: &mut [u64])
-    requires { ⌜ (checkFile (now file) ≡ Checked.Sound n m) × (length (now contents) ≡ 4 * n) ⌝ }
+    requires { ⌜ IsSound (now file) n m × (length (now contents) ≡ 4 * n) ⌝ }
     ensures { λ _. ⌜ left contents ≡ powerUp (was file) .contents ⌝ }
 {
     let mut t = 0;
@@ -37,7 +36,7 @@ fn fill_contents(file: &[u8], n: usize, m: usize, contents: &mut [u64])
 
 // Fills the flip-flops with the power-up bits of a sound file.
 fn fill_flops(file: &[u8], n: usize, m: usize, flops: &mut [u8])
-    requires { ⌜ (checkFile (now file) ≡ Checked.Sound n m) × (length (now flops) ≡ n) ⌝ }
+    requires { ⌜ IsSound (now file) n m × (length (now flops) ≡ n) ⌝ }
     ensures { λ _. ⌜ left flops ≡ powerUp (was file) .flops ⌝ }
 {
     let mut s = 0;

@@ -6,10 +6,10 @@ use native.Mathlib.Nat.{sub-zero}
 use native.Mathlib.Omega.{arith}
 use lib.ListN.{length, take, drop, length-drop}
 use lib.Seq.{take-all, drop-drop}
-use Rattle.slicefile.specs.Format.{sliceTag, recordLength}
+use Rattle.slicefile.specs.Format.{sliceTag, recordLength, sliceCount, inputCount}
 use Rattle.framing.specs.Framing.{sliceRefusal, sizeRefusal}
 use Rattle.framing.proofs.RecordLaws.{slice-whole}
-use Rattle.column.specs.File.{sliceCount, inputCount, recordStart}
+use Rattle.column.specs.File.{recordStart}
 use Rattle.column.specs.Check.{firstBad, checkEnd, checkSlices, checkFile}
 use Rattle.column.specs.declared.Checked.{Checked}
 use Rattle.column.specs.declared.Checked.the-variants.{Bad}

@@ -12,8 +12,9 @@ use Rattle.netlist.specs.Table.{signalCount, inputRoom, GateFits, gateOf, store
 use Rattle.netlist.proofs.Net.{one-settled}
 use Rattle.netlist.proofs.Fitting.{fits-more, fits-reads}
 use Rattle.netlist.proofs.Table.{stored-gate, kept-gate}
+use Rattle.slicefile.specs.Format.{sliceCount, inputCount}
 use Rattle.series7.proofs.GateLaws.{gate-fits as slice-fits}
-use Rattle.column.specs.File.{sliceCount, inputCount, sliceBody, gateAt}
+use Rattle.column.specs.File.{sliceBody, gateAt}
 use Rattle.column.specs.Judge.{readsAt}
 use Rattle.column.specs.Clock.{envOf}
 use Rattle.column.proofs.Runs.{SettlesOnce}

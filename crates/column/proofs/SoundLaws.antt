@@ -8,12 +8,12 @@ use borrow.Author.Tests.{ltb-false}
 use lib.Dec.{ltb}
 use lib.ListN.{length, take, drop, length-drop}
 use lib.Seq.{drop-drop, length-take-le}
-use Rattle.slicefile.specs.Format.{sliceLimit, inputLimit, sizeTag, sliceTag, endTag, headLength, bodyLength, recordLength}
+use Rattle.slicefile.specs.Format.{sliceLimit, inputLimit, sizeTag, sliceTag, endTag, headLength, bodyLength, recordLength, sliceCount, inputCount}
 use Rattle.rules.specs.Rules.{given, bodyRefusal}
 use Rattle.framing.specs.Framing.{headerRefusal, sliceRefusal, sizeRefusal}
 use Rattle.rules.proofs.Refusals.{given-none, orElse-right}
 use Rattle.framing.proofs.RecordLaws.{header-whole, slice-whole, size-tells}
-use Rattle.column.specs.File.{sliceCount, inputCount, sizeLength, sliceTagOf, recordStart, fileLength, sliceBody}
+use Rattle.column.specs.File.{sizeLength, sliceTagOf, recordStart, fileLength, sliceBody}
 use Rattle.column.specs.Check.{firstBad, checkEnd, checkSlices, checkFile}
 use Rattle.column.specs.declared.Checked.{Checked}
 use Rattle.column.specs.declared.Checked.the-variants.{Sound}

@@ -10,6 +10,7 @@ use lib.ListN.{length, getD, set, replicate}
 use Rattle.netlist.specs.Graph.{LoopFree}
 use Rattle.netlist.specs.Rule.{applyGate, ruleOf, sourcesOf, signalsIn, readsOf, valueOf}
 use Rattle.netlist.specs.Table.{signalCount}
+use Rattle.slicefile.specs.Format.{sliceCount}
 use Rattle.slicefile.specs.Lists.{anyBelow, tabulate}
 use Rattle.slicefile.specs.Driver.{driverOf}
 use Rattle.rules.specs.Rules.{letterChoice, badChoice, letterCombination, badCombination, badDriver, bodyRefusal}
@@ -18,7 +19,7 @@ use Rattle.slicefile.proofs.Tests.{and-left, and-right}
 use Rattle.sources.specs.Sources.{pinSource}
 use Rattle.series7.specs.Signals.{pinsOf, startSource, carryIn, carrySource, wideGate, familyGate, sliceGate}
 use Rattle.series7.specs.Edge.{mainSource, secondSource, nextBit, nextFlops, writeAddress, nextWord}
-use Rattle.column.specs.File.{sliceCount, sizeLength, sliceTagOf, recordStart, sliceBody, gateAt}
+use Rattle.column.specs.File.{sizeLength, sliceTagOf, recordStart, sliceBody, gateAt}
 use Rattle.column.specs.Check.{checkEnd, checkSlices, checkFile}
 use Rattle.column.specs.Judge.{readsAt, Judged, bad, accepted, loop}
 use Rattle.column.specs.Clock.{State, envOf, powerUp, clocked, SettledFor, Run}

@@ -4,10 +4,10 @@ use mathlib.Core.Path.{_≡_}
 use mathlib.Core.List.{List}
 use lib.Dec.{ltb}
 use lib.ListN.{length, drop}
-use Rattle.slicefile.specs.Format.{sliceTag, endTag, recordLength}
+use Rattle.slicefile.specs.Format.{sliceTag, endTag, recordLength, sliceCount, inputCount}
 use Rattle.rules.specs.Rules.{given}
 use Rattle.framing.specs.Framing.{headerRefusal, sliceRefusal, sizeRefusal}
-use Rattle.column.specs.File.{sliceCount, inputCount, sizeLength}
+use Rattle.column.specs.File.{sizeLength}
 use Rattle.column.specs.declared.Checked.{Checked}
 use Rattle.column.specs.declared.Checked.the-variants.{Bad, Sound}
 

@@ -9,9 +9,9 @@ use Rattle.netlist.specs.Settle.{Settled}
 use Rattle.netlist.specs.declared.Source.{Source}
 use Rattle.netlist.specs.Table.{signalCount}
 use Rattle.slicefile.specs.Lists.{tabulate}
-use Rattle.slicefile.specs.Format.{contentsWord, powerUpBits}
+use Rattle.slicefile.specs.Format.{sliceCount, inputCount, contentsWord, powerUpBits}
 use Rattle.series7.specs.Edge.{nextFlops, nextWord}
-use Rattle.column.specs.File.{sliceCount, inputCount, sliceBody, gateAt}
+use Rattle.column.specs.File.{sliceBody, gateAt}
 
 -- "4n 64-bit words of contents, word 4s plus the letter; n flip-flop bytes, one a slice"
 pub record State : Type 0 where

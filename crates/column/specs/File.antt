@@ -4,15 +4,8 @@ use mathlib.Core.List.{List}
 use lib.ListN.{drop}
 use Rattle.netlist.specs.Table.{sliceSignals}
 use Rattle.netlist.specs.declared.Gate.{Gate}
-use Rattle.slicefile.specs.Format.{sliceLimit, sizeTag, sliceTag, endTag, recordLength, byteAt, bodyOf}
+use Rattle.slicefile.specs.Format.{sliceLimit, sizeTag, sliceTag, endTag, recordLength, bodyOf, sliceCount, inputCount}
 use Rattle.series7.specs.Signals.{sliceGate}
-
--- "slice count n" and "outside inputs m", of the size record's body
-abbrev pub sliceCount : List ℕ → ℕ
-sliceCount file = byteAt file 3
-
-abbrev pub inputCount : List ℕ → ℕ
-inputCount file = byteAt file 4
 
 -- the length of the size record: for now the same in every file
 unfoldable pub sizeLength : List ℕ → ℕ

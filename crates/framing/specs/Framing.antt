@@ -4,7 +4,7 @@ use mathlib.Core.Bool.{Bool, not, _&&_, _||_}
 use mathlib.Core.List.{List}
 use lib.Dec.{leb, ltb, eqb}
 use lib.ListN.{length}
-use Rattle.slicefile.specs.Format.{sliceLimit, inputLimit, sizeTag, sliceTag, endTag, headLength, bodyLength, recordLength, byteAt, pairAt, bodyOf}
+use Rattle.slicefile.specs.Format.{sliceLimit, inputLimit, sizeTag, sliceTag, endTag, headLength, bodyLength, recordLength, byteAt, pairAt, bodyOf, sliceCount, inputCount}
 use Rattle.rules.specs.Rules.{given, _orElse_, bodyRefusal}
 
 -- "header whole (1), tag known (2), due (4), length (3), body whole (1)", of the record that begins the list
@@ -26,4 +26,4 @@ sliceRefusal n m number s = headerRefusal sliceTag s orElse bodyRefusal n m numb
 
 -- the size record, which begins the file
 unfoldable pub sizeRefusal : List ℕ → ℕ
-sizeRefusal s = headerRefusal sizeTag s orElse given 5 (badSize (byteAt s 3) (byteAt s 4))
+sizeRefusal s = headerRefusal sizeTag s orElse given 5 (badSize (sliceCount s) (inputCount s))

@@ -7,12 +7,12 @@ use Prim.Native.Nat.{ℕ, zero, suc, _+_, _*_, _%_, _≤_}
 use native.Mathlib.Omega.{arith}
 use lib.Dec.{ltb, leb, eqb}
 use lib.ListN.{length, drop}
-use Rattle.slicefile.specs.Format.{sizeTag, sliceTag, endTag, headLength, bodyLength, recordLength, byteAt, pairAt, bodyOf, numberByte}
+use Rattle.slicefile.specs.Format.{sizeTag, sliceTag, endTag, headLength, bodyLength, recordLength, byteAt, pairAt, bodyOf, sliceCount, inputCount, numberByte}
 use Rattle.rules.specs.Rules.{given, _orElse_, badChoice, badCombination, badDriver, bodyRefusal}
 use Rattle.framing.specs.Framing.{headerRefusal, badSize, sliceRefusal, sizeRefusal}
 use Rattle.slicefile.specs.declared.Answer.{Answer}
 use Rattle.framing.proofs.RecordLaws.{size-tells}
-use Rattle.column.specs.File.{sliceCount, inputCount, sizeLength, fileLimit}
+use Rattle.column.specs.File.{sizeLength, fileLimit}
 use Rattle.column.specs.Clock.{State}
 use Rattle.column.specs.Check.{firstBad, checkEnd, checkSlices, checkFile}
 use Rattle.column.specs.Judge.{Judged, bad, accepted, loop}

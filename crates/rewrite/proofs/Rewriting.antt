@@ -9,7 +9,7 @@ use borrow.Author.Tests.{eqb-true, not-false, lt-ltb}
 use lib.Dec.{eqb}
 use lib.ListN.{length, take, drop, length-drop, take-append-drop}
 use lib.Seq.{sets, length-sets, sets-eq, take-all, take-add, take-at, take-append-add, length-take-le}
-use Rattle.slicefile.specs.Format.{sizeTag, sliceTag, endTag, recordLength, endRecord, byteAt, bodyOf, numberByte}
+use Rattle.slicefile.specs.Format.{sizeTag, sliceTag, endTag, recordLength, endRecord, byteAt, bodyOf, sliceCount, inputCount, numberByte}
 use Rattle.rules.specs.Rules.{given, bodyRefusal}
 use Rattle.framing.specs.Framing.{headerRefusal, badSize, sliceRefusal, sizeRefusal}
 use Rattle.rules.proofs.Refusals.{orElse-left, orElse-right, given-none}
@@ -19,7 +19,7 @@ use Rattle.framing.proofs.PrefixLaws.{slice-stays, slice-cut}
 use Rattle.slicerecord.specs.Record.{Below}
 use Rattle.slicerecord.proofs.Pieces.{piece, join, piece-byte}
 use Rattle.recordcalls.specs.Calls.{recordRefusal, readRefusal}
-use Rattle.column.specs.File.{sliceCount, inputCount, recordStart}
+use Rattle.column.specs.File.{recordStart}
 use Rattle.column.proofs.SoundLaws.{SoundFile, record-inside}
 
 -- a piece of the file, put behind its first bytes

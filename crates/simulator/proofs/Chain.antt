@@ -11,7 +11,7 @@ use lib.ListN.{length, getD}
 use Rattle.netlist.specs.Rule.{bitAt, valueOf}
 use Rattle.netlist.specs.declared.Source.{Source}
 use Rattle.netlist.specs.Table.{signalCount}
-use Rattle.slicefile.specs.Format.{mode, shiftData, bypassPin, writeEnablePin}
+use Rattle.slicefile.specs.Format.{sliceCount, inputCount, mode, shiftData, bypassPin, writeEnablePin}
 use Rattle.slicefile.specs.declared.Answer.{Answer}
 use Rattle.slicefile.proofs.Tabulate.{tabulate-length, tabulate-at}
 use Rattle.slicefile.specs.declared.Answer.the-variants.{Done}
@@ -20,7 +20,7 @@ use Rattle.series7.specs.Edge.{writeAddress, written, nextWord}
 use Rattle.sources.specs.Sources.{pinSource}
 use Rattle.series7.proofs.GateLaws.{either}
 use Rattle.column.specs.Clock.{State, powerUp, clocked, Run}
-use Rattle.column.specs.File.{sliceCount, inputCount, sliceBody}
+use Rattle.column.specs.File.{sliceBody}
 use Rattle.column.specs.Judge.{Judged}
 use Rattle.column.specs.declared.Verdict.the-variants.{Accepted}
 use Rattle.column.proofs.Tables.{records-sound}

@@ -3,11 +3,10 @@ ghost use mathlib.Core.Path.{_≡_};
 ghost use Prim.Native.Nat.{_*_};
 ghost use lib.ListN.{length};
 ghost use Rattle.lent.specs.Lent.{was};
-ghost use Rattle.column.specs.Check.{checkFile};
+ghost use Rattle.column.specs.Check.{IsSound};
 ghost use Rattle.column.specs.Clock.{stateWas, stateLeft, clocked};
 ghost use Rattle.column.specs.Compile.{Ready};
 ghost use Rattle.simulator.specs.Running.{Settles, Clocks};
-use column::Checked;
 use column::TABLE_LIMIT;
 use column::Verdict;
 use netlist::SIGNAL_LIMIT;
@@ -65,7 +64,7 @@ fn move_state(
     contents: &mut [u64],
     flops: &mut [u8],
 )
-    requires { ⌜ checkFile (now file) ≡ Checked.Sound n m ⌝ }
+    requires { ⌜ IsSound (now file) n m ⌝ }
     requires { ⌜ (length (now contents) ≡ 4 * n) × (length (now flops) ≡ n) ⌝ }
     ensures { λ _. ⌜ stateLeft contents flops ≡ clocked (was file) (stateWas contents flops) (was inputs) (was values) ⌝ }
 {

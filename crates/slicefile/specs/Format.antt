@@ -51,6 +51,13 @@ pairAt s i = byteAt s i + 256 * byteAt s (i + 1)
 abbrev pub bodyOf : ℕ → List ℕ → List ℕ
 bodyOf tag s = take (bodyLength tag) (drop headLength s)
 
+-- "slice count n" and "outside inputs m": the body of the size record, which begins the file
+abbrev pub sliceCount : List ℕ → ℕ
+sliceCount file = byteAt file headLength
+
+abbrev pub inputCount : List ℕ → ℕ
+inputCount file = byteAt file (headLength + 1)
+
 -- bytes that hold a slice's body: all of it, whatever follows
 abbrev pub HoldsSlice : List ℕ → Type 0
 HoldsSlice body = bodyLength sliceTag ≤ length body

@@ -4,10 +4,10 @@ use Prim.Native.Nat.{ℕ, _+_, _-_, _≤_, _<_}
 use native.Mathlib.Omega.{arith}
 use borrow.Author.Needs.{needs}
 use lib.ListN.{length, drop}
-use Rattle.slicefile.specs.Format.{sizeTag, sliceTag, recordLength}
+use Rattle.slicefile.specs.Format.{sizeTag, sliceTag, recordLength, sliceCount, inputCount}
 use Rattle.framing.specs.Framing.{sizeRefusal, sliceRefusal}
 use Rattle.framing.proofs.RecordLaws.{size-whole}
-use Rattle.column.specs.File.{sliceCount, inputCount, recordStart}
+use Rattle.column.specs.File.{recordStart}
 use Rattle.column.specs.Check.{checkSlices, checkFile}
 use Rattle.column.specs.declared.Checked.the-variants.{Bad}
 use Rattle.column.proofs.Places.{start-at, start-next}
