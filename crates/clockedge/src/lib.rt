@@ -3,7 +3,8 @@ ghost use mathlib.Core.Path.{_≡_};
 ghost use Prim.Native.Nat.{_+_, _*_, _<_, _≤_};
 ghost use lib.ListN.{length, getD, set};
 ghost use Rattle.lent.specs.Lent.{was, left};
-ghost use Rattle.netlist.specs.Rule.{bitAt, valueOf};
+ghost use Rattle.netlist.specs.Rule.{bitAt};
+ghost use Rattle.evaluation.specs.Environment.{valueWas};
 ghost use Rattle.series7.specs.Edge.{withBit, shifted};
 ghost use Rattle.clocknumbers.specs.Numbers.{edgeLength};
 ghost use Rattle.clockedge.specs.Moves.{flopsBy, wordBy};
@@ -20,7 +21,7 @@ use clocknumbers::WRITE;
 // The flip-flop byte of a slice after the edge.
 pub fn next_flops(edge: &[u16], inputs: &[u8], values: &[u8], old: u8) -> u8
     requires { ⌜ length (now edge) ≡ edgeLength ⌝ }
-    ensures { λ r. ⌜ r ≡ flopsBy (valueOf (was inputs) (was values)) (was edge) old ⌝ }
+    ensures { λ r. ⌜ r ≡ flopsBy (valueWas inputs values) (was edge) old ⌝ }
 {
     let reset = evaluation::code_value(edge[RESET], inputs, values);
     if reset == 1 {
@@ -60,7 +61,7 @@ fn bit_31(word: u64) -> u8
 // Letter l's word after the edge; `next` is the next letter's word before it.
 pub fn next_word(edge: &[u16], l: usize, inputs: &[u8], values: &[u8], old: u64, next: u64) -> u64
     requires { ⌜ (length (now edge) ≡ edgeLength) × (l < 4) ⌝ }
-    ensures { λ r. ⌜ r ≡ wordBy (valueOf (was inputs) (was values)) (was edge) l old next ⌝ }
+    ensures { λ r. ⌜ r ≡ wordBy (valueWas inputs values) (was edge) l old next ⌝ }
 {
     let enable = evaluation::code_value(edge[WRITE], inputs, values);
     if enable != 1 {
@@ -90,7 +91,7 @@ fn word_at(contents: &[u64], i: usize) -> u64
 // Moves the words of slice s, ascending, so that each letter still sees the next one's word before the edge.
 fn move_words(edge: &[u16], s: usize, inputs: &[u8], values: &[u8], contents: &mut [u64])
     requires { ⌜ (length (now edge) ≡ edgeLength) × (4 * s + 4 ≤ length (now contents)) ⌝ }
-    ensures { λ _. ⌜ Moved (valueOf (was inputs) (was values)) (was edge) s 4 (was contents) (left contents) ⌝ }
+    ensures { λ _. ⌜ Moved (valueWas inputs values) (was edge) s 4 (was contents) (left contents) ⌝ }
 {
     let mut l = 0;
     while l < 4 {
@@ -112,8 +113,8 @@ pub fn move_slice(
     flops: &mut [u8],
 )
     requires { ⌜ (length (now edge) ≡ edgeLength) × (4 * s + 4 ≤ length (now contents)) × (s < length (now flops)) ⌝ }
-    ensures { λ _. ⌜ Moved (valueOf (was inputs) (was values)) (was edge) s 4 (was contents) (left contents) ⌝ }
-    ensures { λ _. ⌜ left flops ≡ set (was flops) s (flopsBy (valueOf (was inputs) (was values)) (was edge) (getD (was flops) s 0)) ⌝ }
+    ensures { λ _. ⌜ Moved (valueWas inputs values) (was edge) s 4 (was contents) (left contents) ⌝ }
+    ensures { λ _. ⌜ left flops ≡ set (was flops) s (flopsBy (valueWas inputs values) (was edge) (getD (was flops) s 0)) ⌝ }
 {
     move_words(edge, s, inputs, values, contents);
     let byte = next_flops(edge, inputs, values, flops[s]);

@@ -8,7 +8,7 @@ use native.Mathlib.Omega.{arith}
 use lib.ListN.{length}
 use Rattle.netlist.specs.Graph.{LoopFree, WellFormed}
 use Rattle.netlist.specs.Agree.{Agree}
-use Rattle.netlist.specs.Table.{signalCount, inputRoom, GateFits, gateOf, storeGate}
+use Rattle.netlist.specs.Table.{sliceSignals, signalCount, tableLength, gateOf, storeGate, inputRoom, GateFits}
 use Rattle.netlist.proofs.Net.{one-settled}
 use Rattle.netlist.proofs.Fitting.{fits-more, fits-reads}
 use Rattle.netlist.proofs.Table.{stored-gate, kept-gate}
@@ -22,7 +22,7 @@ use Rattle.column.proofs.SoundLaws.{SoundFile}
 
 pub well-formed : (file : List ℕ) → WellFormed (readsAt file) (signalCount (sliceCount file))
 unfolding gateAt
-well-formed file x y l r = fits-reads (sliceCount file) (inputCount file) (gateAt file x) (slice-fits (sliceCount file) (inputCount file) (x / 32) (sliceBody file (x / 32)) (omega arith) (x % 32)) y r
+well-formed file x y l r = fits-reads (sliceCount file) (inputCount file) (gateAt file x) (slice-fits (sliceCount file) (inputCount file) (x / sliceSignals) (sliceBody file (x / sliceSignals)) (omega arith) (x % sliceSignals)) y r
 
 -- the netlist of a file with sound records
 module _ (file : List ℕ) {n m : ℕ} (f : SoundFile file n m) where
@@ -30,14 +30,14 @@ module _ (file : List ℕ) {n m : ℕ} (f : SoundFile file n m) where
   unfolding gateAt
   gate-fits x l =
       rw (f .count, f .inputs)
-      (fits-more n {m = m} (omega (arith, f .inputs-fit)) _ (slice-fits n m (x / 32) (sliceBody file (x / 32)) (omega arith) (x % 32)))
+      (fits-more n {m = m} (omega (arith, f .inputs-fit)) _ (slice-fits n m (x / sliceSignals) (sliceBody file (x / sliceSignals)) (omega arith) (x % sliceSignals)))
 
   pub sound-well-formed : WellFormed (readsAt file) (signalCount n)
   sound-well-formed = rw (← f .count) (well-formed file)
 
   -- one gate more in the table
   pub lower-next :
-      (table : List ℕ) (x : ℕ) → x < signalCount n → length table ≡ 224 * n → Agree (gateOf table n) (gateAt file) x
+      (table : List ℕ) (x : ℕ) → x < signalCount n → length table ≡ tableLength n → Agree (gateOf table n) (gateAt file) x
       → Agree (gateOf (storeGate table n x (gateAt file x)) n) (gateAt file) (x + 1)
   lower-next table x l size a y h = by-place (decLt y x)
     where

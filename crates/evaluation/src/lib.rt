@@ -3,10 +3,10 @@ ghost use mathlib.Core.Path.{_≡_};
 ghost use Prim.Native.Nat.{_+_, _/_, _%_, _^_, _≤_, _<_};
 ghost use lib.ListN.{length, getD};
 ghost use Rattle.lent.specs.Lent.{was};
-ghost use Rattle.netlist.specs.Rule.{bitAt, valueOf, ruleOf};
+ghost use Rattle.netlist.specs.Rule.{bitAt, ruleOf};
 ghost use Rattle.netlist.specs.Table.{signalCount, IsTable, sourceOf, gateOf};
 ghost use Rattle.evaluation.specs.Codes.{numberOn};
-ghost use Rattle.evaluation.specs.Environment.{envWas};
+ghost use Rattle.evaluation.specs.Environment.{envWas, valueWas};
 
 // The low bit of byte `i`, 0 past the end.
 fn low_bit(bytes: &[u8], i: usize) -> u8
@@ -17,7 +17,7 @@ fn low_bit(bytes: &[u8], i: usize) -> u8
 
 // The bit on the source of a code.
 pub fn code_value(code: u16, inputs: &[u8], values: &[u8]) -> u8
-    ensures { λ r. ⌜ (r ≡ valueOf (was inputs) (was values) (sourceOf code)) × (r < 2) ⌝ }
+    ensures { λ r. ⌜ (r ≡ valueWas inputs values (sourceOf code)) × (r < 2) ⌝ }
 {
     if code < 256 {
         if code == 1 {
@@ -34,7 +34,7 @@ pub fn code_value(code: u16, inputs: &[u8], values: &[u8]) -> u8
 // The number on the k codes from place i, lowest first.
 pub fn number_on(codes: &[u16], i: usize, k: usize, inputs: &[u8], values: &[u8]) -> u8
     requires { ⌜ (i + k ≤ length (now codes)) × (k ≤ 8) ⌝ }
-    ensures { λ r. ⌜ (r ≡ numberOn (valueOf (was inputs) (was values)) (was codes) i k) × (r < 2 ^ k) ⌝ }
+    ensures { λ r. ⌜ (r ≡ numberOn (valueWas inputs values) (was codes) i k) × (r < 2 ^ k) ⌝ }
 {
     let mut number: u8 = 0;
     let mut j = k;

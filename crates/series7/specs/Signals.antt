@@ -51,7 +51,10 @@ mc31Gate true t = Lut t (Constant true) (Constant true) (Constant true) (Constan
 
 -- the carry start: zero, one, pin AX, the D carry of slice s-1
 unfoldable pub startSource : ℕ → ℕ → Source → Source
-startSource choice s ax = cond (eqb choice 0) (Constant false) (cond (eqb choice 1) (Constant true) (cond (eqb choice 2) ax (own (s - 1) (carrySignal 3))))
+startSource choice s ax =
+    cond (eqb choice 0) (Constant false)
+    (cond (eqb choice 1) (Constant true)
+    (cond (eqb choice 2) ax (own (s - 1) (carrySignal 3))))
 
 -- the carry coming into a letter: the carry start into A, "into B, C, D the carry of the letter before"
 unfoldable pub carryIn : ℕ → ℕ → ℕ → List ℕ → ℕ → Source
@@ -76,7 +79,12 @@ wideGate n m s body i =
 -- the family of signal k of a slice, four signals each
 abbrev pub familyOf : ℕ → Family
 familyOf k =
-    cond (ltb k 4) O6 (cond (ltb k 8) O5 (cond (ltb k 12) Carry (cond (ltb k 16) Sum (cond (ltb k 20) Wide (cond (ltb k 24) Mux (cond (ltb k 28) Main Second))))))
+    cond (ltb k 4) O6
+    (cond (ltb k 8) O5
+    (cond (ltb k 12) Carry
+    (cond (ltb k 16) Sum
+    (cond (ltb k 20) Wide
+    (cond (ltb k 24) Mux (cond (ltb k 28) Main Second))))))
 
 -- the gate of a letter's signal in a family
 unfoldable pub familyGate : ℕ → ℕ → ℕ → List ℕ → Family → ℕ → Gate

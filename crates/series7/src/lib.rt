@@ -185,7 +185,8 @@ fn mc31_gate(shift: bool, table: usize) -> Gate
 
 // A multiplexer by a letter's bypass pin.
 fn by_bypass(n: usize, m: usize, s: usize, body: &[u8], l: usize, one: usize, other: usize) -> Gate
-    requires { ⌜ HoldsSlice (now body) × (n ≤ columnLimit) × (s < columnLimit) × (l < 4) × (one < sliceSignals) × (other < sliceSignals) ⌝ }
+    requires { ⌜ HoldsSlice (now body) × (n ≤ columnLimit) × (s < columnLimit) ⌝ }
+    requires { ⌜ (l < 4) × (one < sliceSignals) × (other < sliceSignals) ⌝ }
     ensures { λ r. ⌜ r ≡ byBypass n m s (was body) l one other ⌝ }
 {
     let select = sources::pin_source(n, m, body, BYPASS_PIN + l);
