@@ -17,6 +17,8 @@ use slicefile::TABLE_PINS;
 use sources::CARRY_SIGNAL;
 use sources::F7A_SIGNAL;
 use sources::F7B_SIGNAL;
+use sources::MAIN_SIGNAL;
+use sources::MUX_SIGNAL;
 use sources::O5_SIGNAL;
 use sources::SECOND_SIGNAL;
 use sources::SUM_SIGNAL;
@@ -220,25 +222,25 @@ fn wide_gate(n: usize, m: usize, s: usize, body: &[u8], i: usize) -> Gate
 fn family_of(k: usize) -> Family
     ensures { λ r. ⌜ r ≡ familyOf k ⌝ }
 {
-    if k < 4 {
+    if k < O5_SIGNAL {
         return Family::O6;
     }
-    if k < 8 {
+    if k < CARRY_SIGNAL {
         return Family::O5;
     }
-    if k < 12 {
+    if k < SUM_SIGNAL {
         return Family::Carry;
     }
-    if k < 16 {
+    if k < F7A_SIGNAL {
         return Family::Sum;
     }
-    if k < 20 {
+    if k < MUX_SIGNAL {
         return Family::Wide;
     }
-    if k < 24 {
+    if k < MAIN_SIGNAL {
         return Family::Mux;
     }
-    if k < 28 {
+    if k < SECOND_SIGNAL {
         return Family::Main;
     }
     Family::Second

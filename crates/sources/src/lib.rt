@@ -31,6 +31,8 @@ pub const MC31_SIGNAL: usize = 19;
 
 pub const MUX_SIGNAL: usize = 20;
 
+pub const MAIN_SIGNAL: usize = 24;
+
 pub const SECOND_SIGNAL: usize = 28;
 
 // How far outputs 4 to 11, the MUX outputs and the main flip-flops, stand below their signals.
