@@ -5,7 +5,7 @@ use Prim.Native.Nat.{ℕ, zero, suc}
 use native.Mathlib.Omega.{arith}
 use lib.ListN.{length}
 use lib.Seq.{sets, drop-length}
-use Rattle.slicefile.specs.Format.{sliceTag, bodyLength, bodyOf}
+use Rattle.slicefile.specs.Format.{sliceTag, headLength, bodyLength, bodyOf}
 use Rattle.slicefile.specs.declared.Answer.{Answer}
 use Rattle.slicefile.specs.declared.Answer.the-variants.{Refused, Done}
 use Rattle.slicerecord.specs.Record.{recordOf, bodyBytes, Below}
@@ -39,7 +39,7 @@ read-kept s n m body e f = kept-refused (readRefusal s n m) _ body (refused-some
 
 -- what is read from a record is its body
 pub read-body : (s : List ℕ) (n m : ℕ) → Below 256 s → readRefusal s n m ≡ 0 → bodyBytes (readRecord s n m .slice) ≡ bodyOf sliceTag s
-read-body s n m b e = ap (λ (r : Reading). bodyBytes (r .slice)) (read-done s n m e) ∙ bytes-of-record (bodyOf sliceTag s) (read-body-length s n m e) (below-piece s 3 124 b)
+read-body s n m b e = ap (λ (r : Reading). bodyBytes (r .slice)) (read-done s n m e) ∙ bytes-of-record (bodyOf sliceTag s) (read-body-length s n m e) (below-piece s headLength (bodyLength sliceTag) b)
 
 -- a body into which a record was read: the record's own bytes
 pub read-stored : (s : List ℕ) (n m : ℕ) (body : List ℕ) → Below 256 s → length body ≡ bodyLength sliceTag → readRefusal s n m ≡ 0

@@ -8,7 +8,7 @@ use borrow.Author.Tests.{eqb-true, not-false, le-ltb}
 use lib.Dec.{ltb, eqb, lit<}
 use lib.ListN.{length, take, drop, replicate, length-drop}
 use lib.Seq.{take-all, take-at, length-take-le}
-use Rattle.slicefile.specs.Format.{sliceTag, bodyLength, recordLength, bodyOf, byteAt}
+use Rattle.slicefile.specs.Format.{sliceTag, headLength, bodyLength, recordLength, byteAt, bodyOf}
 use Rattle.slicefile.specs.Lists.{tabulate}
 use Rattle.rules.specs.Rules.{given, _orElse_}
 use Rattle.framing.specs.Framing.{headerRefusal, badSize}
@@ -17,7 +17,7 @@ use Rattle.rules.proofs.Refusals.{orElse-left, orElse-right, given-none}
 use Rattle.framing.proofs.RecordLaws.{header-tells}
 use Rattle.slicerecord.specs.Record.{recordOf, bodyBytes, recordBytes, Below, Typed}
 use Rattle.slicerecord.specs.declared.Record.{Record}
-use Rattle.slicerecord.proofs.Pieces.{piece, join, piece-byte, below-piece}
+use Rattle.slicerecord.proofs.Pieces.{join, piece-byte, below-piece}
 use Rattle.slicerecord.proofs.Encoding.{length-bodyBytes, length-recordBytes}
 use Rattle.slicerecord.proofs.RoundTrip.{bytes-of-record, record-of-bytes}
 use Rattle.slicerecord.proofs.Typing.{bytes-typed}
@@ -35,7 +35,7 @@ read-whole s n m e = eqb-true _ _ (not-false _ (given-none 9 _ (orElse-left (giv
 
 -- and so a body of 124
 pub read-body-length : (s : List ℕ) (n m : ℕ) → readRefusal s n m ≡ 0 → length (bodyOf sliceTag s) ≡ bodyLength sliceTag
-read-body-length s n m e = length-take-le 124 (drop 3 s) (rw length-drop (omega (arith, read-whole s n m e)))
+read-body-length s n m e = length-take-le (bodyLength sliceTag) (drop headLength s) (rw length-drop (omega (arith, read-whole s n m e)))
 
 read-rest : (s : List ℕ) (n m : ℕ) → readRefusal s n m ≡ 0 → rest n m s ≡ 0
 unfolding readRefusal rest
@@ -76,7 +76,7 @@ unless-typed (suc k) t u = u
 
 pub read-typed : (s : List ℕ) (n m : ℕ) → Below 256 s → Typed (readRecord s n m .slice)
 unfolding readRecord zeroRecord
-read-typed s n m b = unless-typed (readRefusal s n m) (bytes-typed (bodyOf sliceTag s) (below-piece s 3 124 b)) (bytes-typed (replicate 124 0) (zeros-below 124))
+read-typed s n m b = unless-typed (readRefusal s n m) (bytes-typed (bodyOf sliceTag s) (below-piece s headLength (bodyLength sliceTag) b)) (bytes-typed (replicate (bodyLength sliceTag) 0) (zeros-below (bodyLength sliceTag)))
 
 -- the bytes of the record that was read
 pub bytes-of-read : (s : List ℕ) (n m : ℕ) → Below 256 s → readRefusal s n m ≡ 0 → recordBytes (recordOf (bodyOf sliceTag s)) ≡ s
@@ -85,10 +85,10 @@ bytes-of-read s n m b h =
     let l = read-whole s n m h in
     let told = header-tells sliceTag s (orElse-left (headerRefusal sliceTag s) _ (orElse-right (given 11 (badSize n m)) _ (read-rest s n m h))) in
     let t0 : byteAt s 0 ≡ 2 = told .tag in
-    let t1 : byteAt s 1 ≡ 124 = omega (arith, told .told, b 1, b 2) in
+    let t1 : byteAt s 1 ≡ bodyLength sliceTag = omega (arith, told .told, b 1, b 2) in
     let t2 : byteAt s 2 ≡ 0 = omega (arith, told .told, b 1, b 2) in
-    let body = bytes-of-record (piece s 3 124) (read-body-length s n m h) (below-piece s 3 124 b) in
-    let whole = join s 0 1 126 (piece-byte s 0 (omega arith)) (join s 1 1 125 (piece-byte s 1 (omega arith)) (join s 2 1 124 {ys = piece s 3 124} (piece-byte s 2 (omega arith)) refl)) ∙ take-all 127 s (omega arith) in
+    let body = bytes-of-record (bodyOf sliceTag s) (read-body-length s n m h) (below-piece s headLength (bodyLength sliceTag) b) in
+    let whole = join s 0 1 126 (piece-byte s 0 (omega arith)) (join s 1 1 125 (piece-byte s 1 (omega arith)) (join s 2 1 124 {ys = bodyOf sliceTag s} (piece-byte s 2 (omega arith)) refl)) ∙ take-all (recordLength sliceTag) s (omega arith) in
     rw body (rw (t0, t1, t2) at whole)
 
 -- writing what was read gives the same bytes, and is not refused

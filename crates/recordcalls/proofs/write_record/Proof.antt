@@ -3,6 +3,7 @@ use mathlib.Core.Path.{_≡_, _∙_}
 use native.Mathlib.Omega.{arith}
 use borrow.Author.Tests.{lt-ltb, le-ltb}
 use lib.ListN.{length}
+use Rattle.slicefile.specs.Format.{sliceTag, recordLength}
 use Rattle.recordcalls.specs.Calls.{writeRefusal}
 use Rattle.recordcalls.proofs.Answers.{write-refused, write-done}
 use Rattle.slicerecord.proofs.Stores.{sets-front}
@@ -56,9 +57,9 @@ returns-4 c =
     let d = c .before .before .before .before .before .before in
     let e = d .before .before in
     let at = e .before .before .before .before .before .args in
-    let l : length (e .encode .result) ≡ 127 = search needs in
+    let l : length (e .encode .result) ≡ recordLength sliceTag = search needs in
     let w = write-done (at .slice) (at .n) (at .m) (at .part .now) (decided d ∙ c .before .before .before .before .before .if3 .left) in
-    (w .0, c .before .before .put-bytes .ensures ∙ sets-front (at .part .now) (e .encode .result) 127 l (search needs) ∙ rw (e .encode .ensures) (w .1))
+    (w .0, c .before .before .put-bytes .ensures ∙ sets-front (at .part .now) (e .encode .result) (recordLength sliceTag) l (search needs) ∙ rw (e .encode .ensures) (w .1))
 
 pub write-record-spec : {M : Type 1} → statement M
 write-record-spec =
