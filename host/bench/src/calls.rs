@@ -1,7 +1,7 @@
 //! The library's calls, and the second program's, on one file.
 
+use ::calls::Answer;
 use model::{Simulator, Verdict, Workings};
-use quagmuffin::Answer;
 use std::hint::black_box;
 
 #[derive(Clone, Copy, Debug, PartialEq)]
@@ -90,20 +90,20 @@ impl Bench {
         } = self;
         let (n, m) = (flops.len(), inputs.len());
         match call {
-            Call::Judge => quagmuffin::judge(file).map(|_| ()),
-            Call::Settle => quagmuffin::settle(file, contents, flops, inputs, values),
-            Call::Clock => quagmuffin::clock(file, contents, flops, inputs, values),
+            Call::Judge => ::calls::judge(file).map(|_| ()),
+            Call::Settle => ::calls::settle(file, contents, flops, inputs, values),
+            Call::Clock => ::calls::clock(file, contents, flops, inputs, values),
             Call::EditInput => {
                 let byte = 1 - inputs[0];
-                quagmuffin::edit_input(file, contents, flops, inputs, values, 0, byte)
+                ::calls::edit_input(file, contents, flops, inputs, values, 0, byte)
             }
             Call::EditTable => {
                 let word = !contents[0];
-                quagmuffin::edit_table(file, contents, flops, inputs, values, 0, word)
+                ::calls::edit_table(file, contents, flops, inputs, values, 0, word)
             }
-            Call::PowerUp => quagmuffin::power_up(file, contents, flops),
-            Call::ReadRecord => quagmuffin::read_record(record, n, m, body),
-            Call::WriteRecord => quagmuffin::write_record(body, n, m, record),
+            Call::PowerUp => ::calls::power_up(file, contents, flops),
+            Call::ReadRecord => ::calls::read_record(record, n, m, body),
+            Call::WriteRecord => ::calls::write_record(body, n, m, record),
         }
     }
 

@@ -2,12 +2,12 @@
 
 use std::fmt;
 
+use ::calls::Refused;
 use model::records::{read_record, write_record};
 use model::simulate::Refusal;
 use model::{Rules, Simulator, Workings};
-use quagmuffin::lent::Lent;
-use quagmuffin::workbench::Workbench;
-use quagmuffin::Refused;
+use workbench::lent::Lent;
+use workbench::Workbench;
 
 #[derive(Clone, Copy, Debug, PartialEq, Eq)]
 pub enum Call {
@@ -96,7 +96,7 @@ pub fn by_library(call: Call, buffers: &mut Buffers) -> Answer {
     let (record, body, part) = (&buffers.record, &mut buffers.body, &mut buffers.part);
     let answer = match call {
         Call::Judge => {
-            return match quagmuffin::judge(column.file.get()) {
+            return match ::calls::judge(column.file.get()) {
                 Ok(size) => Answer::Accepted {
                     n: size.n,
                     m: size.m,
@@ -109,8 +109,8 @@ pub fn by_library(call: Call, buffers: &mut Buffers) -> Answer {
         Call::Clock => column.clock(),
         Call::EditInput { input, byte } => column.edit_input(input, byte),
         Call::EditTable { table, word } => column.edit_table(table, word),
-        Call::ReadRecord { n, m } => quagmuffin::read_record(record.get(), n, m, body.lend()),
-        Call::WriteRecord { n, m } => quagmuffin::write_record(body.get(), n, m, part.lend()),
+        Call::ReadRecord { n, m } => ::calls::read_record(record.get(), n, m, body.lend()),
+        Call::WriteRecord { n, m } => ::calls::write_record(body.get(), n, m, part.lend()),
     };
     match answer {
         Ok(()) => Answer::Done,

@@ -2,10 +2,10 @@
 
 use model::design::{Design, Mode, SIGNALS};
 use model::Workings;
-use quagmuffin::lent::Lent;
-use quagmuffin::workbench::Workbench;
 use testkit::prng::Prng;
 use testkit::random;
+use workbench::lent::Lent;
+use workbench::Workbench;
 
 use crate::calls::{Buffers, Call, Caller, Model};
 use crate::comparison::{Compared, Comparison, Sides};

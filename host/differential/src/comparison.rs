@@ -2,7 +2,7 @@
 
 use std::fmt::Debug;
 
-use quagmuffin::lent::Lent;
+use workbench::lent::Lent;
 
 use crate::calls::{Answer, Buffers, Call, Caller};
 use crate::Counts;

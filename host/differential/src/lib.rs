@@ -10,7 +10,7 @@ pub mod saved;
 
 use std::ops::AddAssign;
 
-use calls::Answer;
+use crate::calls::Answer;
 
 /// What was compared.
 #[derive(Clone, Copy, Debug, Default)]

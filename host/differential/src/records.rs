@@ -4,10 +4,10 @@ use std::collections::HashSet;
 
 use model::layout::*;
 use model::records::slice_record;
-use quagmuffin::lent::Lent;
 use testkit::column::Column;
 use testkit::prng::Prng;
 use testkit::{random, traps};
+use workbench::lent::Lent;
 
 use crate::calls::{Buffers, Call};
 use crate::columns::{far_number, junk, other_length};

@@ -6,8 +6,8 @@ use std::collections::BTreeMap;
 use std::fmt::Write;
 use std::path::Path;
 
-use quagmuffin::lent::Lent;
-use quagmuffin::workbench::Workbench;
+use workbench::lent::Lent;
+use workbench::Workbench;
 
 use crate::calls::{Buffers, Call};
 use crate::comparison::{Case, Difference};

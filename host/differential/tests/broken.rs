@@ -4,8 +4,8 @@ use differential::calls::{by_library, Answer, Buffers, Call, Model};
 use differential::comparison::{Difference, Sides};
 use differential::{columns, records};
 use model::Workings;
-use quagmuffin::lent::Lent;
 use testkit::random::seed;
+use workbench::lent::Lent;
 
 type Broken = fn(Call, &mut Buffers) -> Answer;
 

@@ -1,12 +1,12 @@
 //! Random files, records and calls: the library's answers and buffers against the model's.
 
+use calls::{read_record, write_record};
 use differential::calls::{by_library, Answer, Buffers, Call, Model};
 use differential::comparison::{Compared, Sides};
 use differential::saved::save;
 use differential::{columns, records, Counts};
 use model::layout::*;
 use model::Workings;
-use quagmuffin::{read_record, write_record};
 use testkit::random::{seed, times};
 use testkit::run::differences_folder;
 use testkit::traps;

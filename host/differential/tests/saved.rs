@@ -8,11 +8,11 @@ use differential::comparison::{replayed, Case, Difference, Sides};
 use differential::saved::{from_text, save, to_text};
 use differential::{columns, mutants, records};
 use model::Workings;
-use quagmuffin::lent::Lent;
-use quagmuffin::workbench::Workbench;
 use testkit::column::Column;
 use testkit::command::{assert_fails, assert_writes};
 use testkit::random::seed;
+use workbench::lent::Lent;
+use workbench::Workbench;
 
 /// Saves a difference with a wrong model and reads it back: the case is the same, differs in the same way with
 /// the wrong model, and not at all with the right one.

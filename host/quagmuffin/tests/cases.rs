@@ -1,11 +1,11 @@
 //! The paper's worked cases through the exported library, with what they have to give, written by hand.
 
 use model::layout::*;
-use quagmuffin::workbench::Workbench;
 use quagmuffin::{judge, Accepted, Refused};
 use testkit::cases::{long_files, sizes, truncations, worked, worked_file};
 use testkit::column::Column;
 use testkit::traps;
+use workbench::Workbench;
 
 /// The signals that are 1, of values that are all 0 or 1.
 fn ones(bench: &Workbench) -> Vec<usize> {

@@ -1,9 +1,9 @@
 //! The record calls through the exported library, with what they have to give, written by hand.
 
 use model::layout::*;
-use quagmuffin::lent::Lent;
 use quagmuffin::{read_record, write_record, Refused};
 use testkit::column::{z, Column};
+use workbench::lent::Lent;
 
 const HEAD: [u8; 3] = [2, 124, 0];
 

@@ -1,10 +1,10 @@
 //! A refused call writes nothing: every buffer and the guards around it are as before.
 
 use model::layout::*;
-use quagmuffin::lent::Lent;
-use quagmuffin::workbench::Workbench;
 use quagmuffin::{Answer, Refused};
 use testkit::column::{z, z_slicem, Column};
+use workbench::lent::Lent;
+use workbench::Workbench;
 
 type Call = fn(&mut Workbench) -> Answer;
 

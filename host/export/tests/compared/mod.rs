@@ -5,9 +5,9 @@ use std::path::Path;
 use export::{iverilog, verilog, Netlist, Stimulus};
 use model::design::SIGNALS;
 use model::{Design, Simulator, Workings};
-use quagmuffin::workbench::Workbench;
 use testkit::prng::Prng;
 use testkit::random;
+use workbench::Workbench;
 
 /// The clocks that each design runs for.
 pub const CLOCKS: usize = 12;

@@ -1,7 +1,9 @@
 //! A file that is run in guarded buffers of its own, for tests.
 
+pub mod lent;
+
 use crate::lent::Lent;
-use crate::Answer;
+use calls::Answer;
 
 /// A file and the buffers of its calls.
 #[derive(Clone, Debug, PartialEq)]
@@ -43,11 +45,11 @@ impl Workbench {
     }
 
     pub fn power_up(&mut self) -> Answer {
-        crate::power_up(self.file.get(), self.contents.lend(), self.flops.lend())
+        calls::power_up(self.file.get(), self.contents.lend(), self.flops.lend())
     }
 
     pub fn settle(&mut self) -> Answer {
-        crate::settle(
+        calls::settle(
             self.file.get(),
             self.contents.get(),
             self.flops.get(),
@@ -57,7 +59,7 @@ impl Workbench {
     }
 
     pub fn clock(&mut self) -> Answer {
-        crate::clock(
+        calls::clock(
             self.file.get(),
             self.contents.lend(),
             self.flops.lend(),
@@ -67,7 +69,7 @@ impl Workbench {
     }
 
     pub fn edit_input(&mut self, input: usize, byte: u8) -> Answer {
-        crate::edit_input(
+        calls::edit_input(
             self.file.get(),
             self.contents.get(),
             self.flops.get(),
@@ -79,7 +81,7 @@ impl Workbench {
     }
 
     pub fn edit_table(&mut self, table: usize, word: u64) -> Answer {
-        crate::edit_table(
+        calls::edit_table(
             self.file.get(),
             self.contents.lend(),
             self.flops.get(),

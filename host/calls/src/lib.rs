@@ -1,0 +1,280 @@
+//! The exported calls, behind functions that are safe to call: slices in, an answer out. Tests and benchmarks use them, because they lend
+//! buffers of any length; a host uses the crate `quagmuffin`, which has the buffers of a file.
+
+mod exported {
+    extern "C" {
+        pub fn qm_judge(file: *const u8, file_len: usize) -> u64;
+
+        pub fn qm_power_up(
+            file: *const u8,
+            file_len: usize,
+            contents: *mut u64,
+            contents_len: usize,
+            flops: *mut u8,
+            flops_len: usize,
+        ) -> u64;
+
+        pub fn qm_settle(
+            file: *const u8,
+            file_len: usize,
+            contents: *const u64,
+            contents_len: usize,
+            flops: *const u8,
+            flops_len: usize,
+            inputs: *const u8,
+            inputs_len: usize,
+            values: *mut u8,
+            values_len: usize,
+        ) -> u64;
+
+        pub fn qm_clock(
+            file: *const u8,
+            file_len: usize,
+            contents: *mut u64,
+            contents_len: usize,
+            flops: *mut u8,
+            flops_len: usize,
+            inputs: *const u8,
+            inputs_len: usize,
+            values: *mut u8,
+            values_len: usize,
+        ) -> u64;
+
+        pub fn qm_edit_input(
+            file: *const u8,
+            file_len: usize,
+            contents: *const u64,
+            contents_len: usize,
+            flops: *const u8,
+            flops_len: usize,
+            inputs: *mut u8,
+            inputs_len: usize,
+            values: *mut u8,
+            values_len: usize,
+            input: usize,
+            byte: u8,
+        ) -> u64;
+
+        pub fn qm_edit_table(
+            file: *const u8,
+            file_len: usize,
+            contents: *mut u64,
+            contents_len: usize,
+            flops: *const u8,
+            flops_len: usize,
+            inputs: *const u8,
+            inputs_len: usize,
+            values: *mut u8,
+            values_len: usize,
+            table: usize,
+            word: u64,
+        ) -> u64;
+
+        pub fn qm_read_record(
+            record: *const u8,
+            record_len: usize,
+            n: usize,
+            m: usize,
+            body: *mut u8,
+            body_len: usize,
+        ) -> u64;
+
+        pub fn qm_write_record(
+            body: *const u8,
+            body_len: usize,
+            n: usize,
+            m: usize,
+            part: *mut u8,
+            part_len: usize,
+        ) -> u64;
+    }
+}
+
+/// A refusal: its number, 1 to 11, and its place.
+#[derive(Clone, Copy, Debug, PartialEq, Eq)]
+pub struct Refused {
+    pub number: u8,
+    pub place: u64,
+}
+
+/// The size of an accepted file: its slices n and its outside inputs m.
+#[derive(Clone, Copy, Debug, PartialEq, Eq)]
+pub struct Accepted {
+    pub n: usize,
+    pub m: usize,
+}
+
+/// What a call that gives nothing back answers.
+pub type Answer = Result<(), Refused>;
+
+fn answer(packed: u64) -> Answer {
+    match packed {
+        0 => Ok(()),
+        _ => Err(refused(packed)),
+    }
+}
+
+fn refused(packed: u64) -> Refused {
+    Refused {
+        number: packed as u8,
+        place: packed >> 8,
+    }
+}
+
+/// Judges any bytes.
+pub fn judge(file: &[u8]) -> Result<Accepted, Refused> {
+    let packed = unsafe { exported::qm_judge(file.as_ptr(), file.len()) };
+    match packed as u8 {
+        0 => Ok(Accepted {
+            n: (packed >> 8) as u16 as usize,
+            m: (packed >> 24) as usize,
+        }),
+        _ => Err(refused(packed)),
+    }
+}
+
+/// Fills 4n words of contents and n flip-flop bytes with the state at power-up.
+pub fn power_up(file: &[u8], contents: &mut [u64], flops: &mut [u8]) -> Answer {
+    answer(unsafe {
+        exported::qm_power_up(
+            file.as_ptr(),
+            file.len(),
+            contents.as_mut_ptr(),
+            contents.len(),
+            flops.as_mut_ptr(),
+            flops.len(),
+        )
+    })
+}
+
+/// Fills 32n value bytes with the settled signals.
+pub fn settle(
+    file: &[u8],
+    contents: &[u64],
+    flops: &[u8],
+    inputs: &[u8],
+    values: &mut [u8],
+) -> Answer {
+    answer(unsafe {
+        exported::qm_settle(
+            file.as_ptr(),
+            file.len(),
+            contents.as_ptr(),
+            contents.len(),
+            flops.as_ptr(),
+            flops.len(),
+            inputs.as_ptr(),
+            inputs.len(),
+            values.as_mut_ptr(),
+            values.len(),
+        )
+    })
+}
+
+/// One clock: the values are those settled before the edge, the state has moved.
+pub fn clock(
+    file: &[u8],
+    contents: &mut [u64],
+    flops: &mut [u8],
+    inputs: &[u8],
+    values: &mut [u8],
+) -> Answer {
+    answer(unsafe {
+        exported::qm_clock(
+            file.as_ptr(),
+            file.len(),
+            contents.as_mut_ptr(),
+            contents.len(),
+            flops.as_mut_ptr(),
+            flops.len(),
+            inputs.as_ptr(),
+            inputs.len(),
+            values.as_mut_ptr(),
+            values.len(),
+        )
+    })
+}
+
+/// Sets an outside input, and recomputes the signals that depend on it.
+pub fn edit_input(
+    file: &[u8],
+    contents: &[u64],
+    flops: &[u8],
+    inputs: &mut [u8],
+    values: &mut [u8],
+    input: usize,
+    byte: u8,
+) -> Answer {
+    answer(unsafe {
+        exported::qm_edit_input(
+            file.as_ptr(),
+            file.len(),
+            contents.as_ptr(),
+            contents.len(),
+            flops.as_ptr(),
+            flops.len(),
+            inputs.as_mut_ptr(),
+            inputs.len(),
+            values.as_mut_ptr(),
+            values.len(),
+            input,
+            byte,
+        )
+    })
+}
+
+/// Sets a table's contents, and recomputes the signals that depend on them.
+pub fn edit_table(
+    file: &[u8],
+    contents: &mut [u64],
+    flops: &[u8],
+    inputs: &[u8],
+    values: &mut [u8],
+    table: usize,
+    word: u64,
+) -> Answer {
+    answer(unsafe {
+        exported::qm_edit_table(
+            file.as_ptr(),
+            file.len(),
+            contents.as_mut_ptr(),
+            contents.len(),
+            flops.as_ptr(),
+            flops.len(),
+            inputs.as_ptr(),
+            inputs.len(),
+            values.as_mut_ptr(),
+            values.len(),
+            table,
+            word,
+        )
+    })
+}
+
+/// Reads a slice record of 127 bytes into a body of 124.
+pub fn read_record(record: &[u8], n: usize, m: usize, body: &mut [u8]) -> Answer {
+    answer(unsafe {
+        exported::qm_read_record(
+            record.as_ptr(),
+            record.len(),
+            n,
+            m,
+            body.as_mut_ptr(),
+            body.len(),
+        )
+    })
+}
+
+/// Writes the slice record with a body of 124 bytes into the first 127 bytes of a part.
+pub fn write_record(body: &[u8], n: usize, m: usize, part: &mut [u8]) -> Answer {
+    answer(unsafe {
+        exported::qm_write_record(
+            body.as_ptr(),
+            body.len(),
+            n,
+            m,
+            part.as_mut_ptr(),
+            part.len(),
+        )
+    })
+}
