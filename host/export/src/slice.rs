@@ -6,7 +6,7 @@ use model::design::{
 use model::layout::*;
 
 use crate::cells::{Cell, SliceCells, Wire};
-use crate::names::{self, LETTER_NAMES};
+use crate::names;
 
 const ZERO: &str = "1'b0";
 

@@ -1,5 +1,7 @@
 //! A file that passed refusals 1 to 8, decoded, and what each signal reads.
 
+use std::fmt;
+
 use crate::layout::*;
 use crate::rules::Rules;
 
@@ -75,6 +77,17 @@ pub enum Output {
     O6(usize),
     Mux(usize),
     Main(usize),
+}
+
+impl Output {
+    /// The signal that the output is.
+    pub fn signal(self) -> Signal {
+        match self {
+            Output::O6(letter) => Signal::O6(letter),
+            Output::Mux(letter) => Signal::Mux(letter),
+            Output::Main(letter) => Signal::Main(letter),
+        }
+    }
 }
 
 /// The driver of a code, if there is one in a column of n slices and m inputs.
@@ -261,6 +274,26 @@ impl Signal {
     }
 }
 
+/// The signal's name in its slice.
+impl fmt::Display for Signal {
+    fn fmt(&self, out: &mut fmt::Formatter) -> fmt::Result {
+        let (before, after) = match self {
+            Signal::O6(letter) => (LETTER_NAMES[*letter], ".O6"),
+            Signal::O5(letter) => (LETTER_NAMES[*letter], ".O5"),
+            Signal::Carry(letter) => (LETTER_NAMES[*letter], ".carry"),
+            Signal::Sum(letter) => (LETTER_NAMES[*letter], ".sum"),
+            Signal::F7A => ("F7A", ""),
+            Signal::F7B => ("F7B", ""),
+            Signal::F8 => ("F8", ""),
+            Signal::Mc31 => ("MC31", ""),
+            Signal::Mux(letter) => (LETTER_NAMES[*letter], "MUX"),
+            Signal::Main(letter) => (LETTER_NAMES[*letter], "Q"),
+            Signal::Second(letter) => (LETTER_NAMES[*letter], "5Q"),
+        };
+        write!(out, "{before}{after}")
+    }
+}
+
 /// Something that a signal reads.
 #[derive(Clone, Copy, Debug, PartialEq, Eq)]
 pub enum Source {
@@ -279,6 +312,19 @@ impl Source {
     }
 }
 
+/// What a signal reads, and the pin of its slice through which it does, if through one.
+#[derive(Clone, Copy, Debug, PartialEq, Eq)]
+pub struct Read {
+    pub pin: Option<usize>,
+    pub source: Source,
+}
+
+impl From<Source> for Read {
+    fn from(source: Source) -> Read {
+        Read { pin: None, source }
+    }
+}
+
 impl Design {
     /// For each signal the signals it reads directly.
     pub fn graph(&self) -> Vec<Vec<usize>> {
@@ -294,10 +340,16 @@ impl Design {
 
     /// All that a signal reads directly.
     pub fn sources(&self, signal: usize) -> Vec<Source> {
+        let reads = self.reads_by_pin(signal).into_iter();
+        reads.map(|read| read.source).collect()
+    }
+
+    /// The same, with the pins.
+    pub fn reads_by_pin(&self, signal: usize) -> Vec<Read> {
         let at = signal / SIGNALS;
         let slice = &self.slices[at];
-        let own = |signal: Signal| Source::Signal(signal.of_slice(at));
-        let pin = |pin| self.pin(at, pin);
+        let own = |signal: Signal| Read::from(Source::Signal(signal.of_slice(at)));
+        let pin = |pin| self.through(at, pin);
         match Signal::numbered(signal % SIGNALS) {
             Signal::O6(letter) => {
                 let first = match slice.mode[letter] {
@@ -336,32 +388,36 @@ impl Design {
         match self.slices[slice].pins[pin] {
             Driver::Constant(bit) => Source::Constant(bit),
             Driver::Input(input) => Source::Input(input),
-            Driver::Output { slice, output } => Source::Signal(match output {
-                Output::O6(letter) => Signal::O6(letter).of_slice(slice),
-                Output::Mux(letter) => Signal::Mux(letter).of_slice(slice),
-                Output::Main(letter) => Signal::Main(letter).of_slice(slice),
-            }),
+            Driver::Output { slice, output } => Source::Signal(output.signal().of_slice(slice)),
+        }
+    }
+
+    /// Reads a pin.
+    fn through(&self, slice: usize, pin: usize) -> Read {
+        Read {
+            pin: Some(pin),
+            source: self.pin(slice, pin),
         }
     }
 
     /// The carry coming into a letter.
-    fn carry_in(&self, slice: usize, letter: usize) -> Source {
+    fn carry_in(&self, slice: usize, letter: usize) -> Read {
         if letter != A {
-            return Source::Signal(Signal::Carry(letter - 1).of_slice(slice));
+            return Source::Signal(Signal::Carry(letter - 1).of_slice(slice)).into();
         }
         match self.slices[slice].carry_start {
-            CarryStart::Zero => Source::Constant(false),
-            CarryStart::One => Source::Constant(true),
-            CarryStart::Ax => self.pin(slice, bypass_pin(A)),
-            CarryStart::SliceBelow => Source::Signal(Signal::Carry(D).of_slice(slice - 1)),
+            CarryStart::Zero => Source::Constant(false).into(),
+            CarryStart::One => Source::Constant(true).into(),
+            CarryStart::Ax => self.through(slice, bypass_pin(A)),
+            CarryStart::SliceBelow => Source::Signal(Signal::Carry(D).of_slice(slice - 1)).into(),
         }
     }
 
     /// The carry data of a letter.
-    fn carry_data(&self, slice: usize, letter: usize) -> Source {
+    fn carry_data(&self, slice: usize, letter: usize) -> Read {
         match self.slices[slice].carry_data[letter] {
-            CarryData::O5 => Source::Signal(Signal::O5(letter).of_slice(slice)),
-            CarryData::Bypass => self.pin(slice, bypass_pin(letter)),
+            CarryData::O5 => Source::Signal(Signal::O5(letter).of_slice(slice)).into(),
+            CarryData::Bypass => self.through(slice, bypass_pin(letter)),
         }
     }
 }

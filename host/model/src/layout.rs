@@ -20,6 +20,7 @@ pub const B: usize = 1;
 pub const C: usize = 2;
 pub const D: usize = 3;
 pub const LETTERS: [usize; 4] = [A, B, C, D];
+pub const LETTER_NAMES: [&str; 4] = ["A", "B", "C", "D"];
 
 // Offsets in a slice body; where there is one a letter, that of letter A.
 pub const NUMBER: usize = 0;

@@ -1,0 +1,307 @@
+//! Text as a file.
+
+use std::collections::HashMap;
+
+use model::layout::SLICE_BODY;
+
+use crate::contents;
+use crate::fields::{fields, kind, Field, Kind, NONE};
+use crate::lines::{Line, Mistake};
+use crate::names::{self, Wire};
+use crate::records::Records;
+
+/// A name that a text gives: its wires, the lowest first, and whether the highest one is the sign of a number.
+#[derive(Clone, Debug, PartialEq)]
+pub struct Name {
+    pub word: String,
+    pub wires: Vec<Wire>,
+    pub signed: bool,
+}
+
+/// The names of a text, in their order.
+pub type Names = [Name];
+
+/// What a text holds.
+#[derive(Clone, Debug, PartialEq)]
+pub struct Parsed {
+    pub records: Records,
+    pub names: Vec<Name>,
+}
+
+/// The most wires that a name can stand for.
+const MOST_WIRES: usize = 64;
+
+/// Words that are no names of wires.
+const KEPT: [&str; 4] = ["in", "code", "inputs", "signed"];
+
+/// Reads a text.
+pub fn parse(text: &str) -> Result<Parsed, Mistake> {
+    let mut reader = Reader {
+        fields: fields(),
+        size: [None, None],
+        slices: vec![],
+        current: None,
+        seen: HashMap::new(),
+        names: vec![],
+    };
+    for (number, line) in (1..).zip(text.trim_start_matches('\u{feff}').lines()) {
+        let mut line = Line::new(number, line);
+        if line.peek().is_some() {
+            reader.statement(&mut line)?;
+            line.ended()?;
+        }
+    }
+    let [Some(n), m] = reader.size else {
+        return Err(Mistake::of_all(
+            "no line says how many slices there are, as `slices 2` does",
+        ));
+    };
+    let records = Records {
+        n,
+        m: m.unwrap_or(0),
+        slices: reader.slices,
+    };
+    let names = reader.names;
+    Ok(Parsed { records, names })
+}
+
+struct Reader {
+    fields: Vec<Field>,
+    /// n and m.
+    size: [Option<u8>; 2],
+    slices: Vec<[u8; SLICE_BODY]>,
+    /// The slice that lines are about.
+    current: Option<usize>,
+    /// The line on which something was said that is said once.
+    seen: HashMap<String, usize>,
+    names: Vec<Name>,
+}
+
+impl Reader {
+    fn statement(&mut self, line: &mut Line) -> Result<(), Mistake> {
+        match line.peek() {
+            Some("slices") => self.size(line, 0),
+            Some("inputs") => self.size(line, 1),
+            Some("slice") => self.slice(line),
+            Some("name") => self.name(line),
+            _ => self.field(line),
+        }
+    }
+
+    /// Notes that something is said, where it wasn't before.
+    fn once(&mut self, line: &Line, what: String) -> Result<(), Mistake> {
+        match self.seen.get(&what) {
+            Some(before) => Err(line.mistake(&format!("line {before} has said this already"))),
+            None => {
+                self.seen.insert(what, line.number);
+                Ok(())
+            }
+        }
+    }
+
+    /// `slices 2` or `inputs 3`.
+    fn size(&mut self, line: &mut Line, which: usize) -> Result<(), Mistake> {
+        self.once(line, line.peek().unwrap_or_default().to_string())?;
+        line.skip();
+        let count = line.number(255)? as u8;
+        self.size[which] = Some(count);
+        if which == 0 {
+            self.slices = Records::zeros(count, 0).slices;
+        }
+        Ok(())
+    }
+
+    /// `slice 3 SLICEM`.
+    fn slice(&mut self, line: &mut Line) -> Result<(), Mistake> {
+        let Some(last) = self.slices.len().checked_sub(1) else {
+            return Err(line.mistake("a line such as `slices 2` has to stand before the slices"));
+        };
+        line.skip();
+        self.once(line, format!("slice {}", line.peek().unwrap_or_default()))?;
+        let number = line.number(last)?;
+        self.current = Some(number);
+        match line.peek() {
+            Some(_) => value(line, &kind(), &[], &mut self.slices[number]),
+            None => Ok(()),
+        }
+    }
+
+    /// `name step = in 0`; more than one wire stand for a number, the lowest first, with a sign after `signed`.
+    fn name(&mut self, line: &mut Line) -> Result<(), Mistake> {
+        line.skip();
+        let word = line.peek().unwrap_or_default();
+        if !is_name(word) {
+            return Err(line.mistake("a name is a word of small letters, digits and _ that begins with a letter, and not `in`, `in3`, `code`, `inputs` or `signed`"));
+        }
+        self.once(line, format!("name {word}"))?;
+        line.skip();
+        if !line.take("=") {
+            return Err(line.mistake("a `=` is due, as in `name step = in 0`"));
+        }
+        let signed = line.take("signed");
+        let mut wires = vec![wire(line, &[])?];
+        while line.peek().is_some() {
+            wires.push(wire(line, &[])?);
+        }
+        if wires.len() > MOST_WIRES {
+            return Err(line.mistake(&format!("a name has at most {MOST_WIRES} wires")));
+        }
+        let word = word.to_string();
+        self.names.push(Name {
+            word,
+            wires,
+            signed,
+        });
+        Ok(())
+    }
+
+    /// A field of the slice that lines are about.
+    fn field(&mut self, line: &mut Line) -> Result<(), Mistake> {
+        // `SR` and `SR =` both begin a field: the longer one is meant.
+        let starting = |field: &&Field| line.starts_with(&field.words);
+        let field = self
+            .fields
+            .iter()
+            .filter(|x| starting(x).is_some())
+            .max_by_key(starting);
+        let Some(field) = field.cloned() else {
+            return Err(line.mistake("no line begins so; docs/TEXT.md has the lines there are"));
+        };
+        let Some(current) = self.current else {
+            return Err(line.mistake("a line such as `slice 0` has to stand before this one"));
+        };
+        self.once(line, format!("{current} {}", field.words))?;
+        (0..field.words.split(' ').count()).for_each(|_| line.skip());
+        value(line, &field, &self.names, &mut self.slices[current])
+    }
+}
+
+/// Whether a word can be given as a name.
+fn is_name(word: &str) -> bool {
+    let lowercase = |x: char| x.is_ascii_lowercase() || x.is_ascii_digit() || x == '_';
+    let begins = word.starts_with(|x: char| x.is_ascii_lowercase());
+    let is_taken = KEPT.contains(&word) || names::input_named(word).is_some();
+    begins && word.chars().all(lowercase) && !is_taken
+}
+
+/// Reads a field's value into a slice's body.
+fn value(
+    line: &mut Line,
+    field: &Field,
+    names: &Names,
+    body: &mut [u8; SLICE_BODY],
+) -> Result<(), Mistake> {
+    let bytes = &mut body[field.bytes.clone()];
+    match &field.kind {
+        Kind::Choice(names) => bytes[0] = choice(line, names)?,
+        Kind::Contents(letter) => {
+            bytes.copy_from_slice(&contents::parse(line, *letter)?.to_le_bytes())
+        }
+        Kind::Driver => bytes.copy_from_slice(&driver(line, names)?.to_le_bytes()),
+        Kind::Flops => bytes[0] = flops(line)?,
+    }
+    Ok(())
+}
+
+/// A choice by its name, or `choice 7`.
+fn choice(line: &mut Line, names: &[String]) -> Result<u8, Mistake> {
+    if line.take("choice") {
+        return Ok(line.number(255)? as u8);
+    }
+    let place = names.iter().position(|name| line.peek() == Some(name));
+    let mistake = || line.mistake(&format!("{} or `choice 7` is due", names.join(", ")));
+    let place = place.ok_or_else(mistake)?;
+    line.skip();
+    Ok(place as u8)
+}
+
+/// `0`, `1`, `code 7`, or a wire that drives pins.
+fn driver(line: &mut Line, names: &Names) -> Result<u16, Mistake> {
+    if line.take("code") {
+        return Ok(line.number(usize::from(u16::MAX))? as u16);
+    }
+    for (word, code) in [("0", 0), ("1", 1)] {
+        if line.take(word) {
+            return Ok(code);
+        }
+    }
+    let before = line.mistake("a pin is driven by 0, 1, an input (`in 3`) or an output of a slice: O6, MUX or Q (`s0.A.O6`, `s0.AMUX`, `s0.AQ`)");
+    let wire = wire(line, names)?;
+    names::code_of(wire).ok_or(before)
+}
+
+/// `in 3`, `in3`, `s0.AQ`, or a name given before that stands for one wire.
+fn wire(line: &mut Line, names: &Names) -> Result<Wire, Mistake> {
+    if line.take("in") {
+        return Ok(Wire::Input(line.number(3839)?));
+    }
+    let word = line.peek().unwrap_or_default();
+    let wire = match names.iter().find(|name| name.word == word) {
+        Some(name) => match name.wires[..] {
+            [wire] => Some(wire),
+            _ => return Err(line.mistake("this name stands for more than one wire")),
+        },
+        None => names::wire_named(word),
+    };
+    let wire = wire.ok_or(
+        line.mistake("an input (`in 3`), a signal (`s0.AQ`) or a name given before is due"),
+    )?;
+    line.skip();
+    Ok(wire)
+}
+
+/// One of m outside inputs, by name or by number.
+pub fn input(line: &mut Line, names: &Names, m: usize) -> Result<usize, Mistake> {
+    let here = line.mistake(&format!(
+        "no outside input by that name; there are {m}, by name or number"
+    ));
+    let number = line.peek().and_then(names::number).map(Wire::Input);
+    let wire = match number {
+        Some(wire) => {
+            line.skip();
+            wire
+        }
+        None => wire(line, names)?,
+    };
+    match wire {
+        Wire::Input(input) if input < m => Ok(input),
+        _ => Err(here),
+    }
+}
+
+/// Names of flip-flops, or `none`.
+fn flops(line: &mut Line) -> Result<u8, Mistake> {
+    if line.take(NONE) {
+        return Ok(0);
+    }
+    let mut byte = 0;
+    loop {
+        let bit = (0..8).find(|&bit| line.peek() == Some(&names::flop(bit)));
+        let bit =
+            bit.ok_or(line.mistake("flip-flops are due, AQ to DQ and A5Q to D5Q, or `none`"))?;
+        line.skip();
+        byte |= 1 << bit;
+        if line.peek().is_none() {
+            return Ok(byte);
+        }
+    }
+}
+
+#[cfg(test)]
+mod tests {
+    use super::*;
+    use model::layout::NUMBER;
+
+    /// The number in a slice's body is never touched.
+    #[test]
+    fn numbers_stay() {
+        let parsed = parse("slices 3\nslice 2 SLICEM\nA1 = 1\n").expect("a text");
+        let numbers: Vec<u8> = parsed
+            .records
+            .slices
+            .iter()
+            .map(|body| body[NUMBER])
+            .collect();
+        assert_eq!(numbers, [0, 1, 2]);
+    }
+}

@@ -1,0 +1,35 @@
+//! A file as text.
+
+use model::layout::SLICE_BODY;
+
+use crate::fields::{fields, kind, Field};
+use crate::records::Records;
+
+/// The text of a whole design. A slice of defaults is left out.
+pub fn show(records: &Records) -> String {
+    let fields = fields();
+    let mut text = format!("slices {}\ninputs {}\n", records.n, records.m);
+    for (number, body) in records.slices.iter().enumerate() {
+        let shown = slice(&fields, number, body);
+        if shown != first_line(number, &[0; SLICE_BODY]) {
+            text += &format!("\n{shown}");
+        }
+    }
+    text
+}
+
+/// The text of one slice, which may be one of defaults.
+pub fn show_slice(records: &Records, number: usize) -> Option<String> {
+    let body = records.slices.get(number)?;
+    Some(slice(&fields(), number, body))
+}
+
+fn slice(fields: &[Field], number: usize, body: &[u8]) -> String {
+    let shown = fields.iter().filter(|field| !field.is_default(body));
+    let lines = shown.map(|field| format!("  {}\n", field.line(body)));
+    first_line(number, body) + &lines.collect::<String>()
+}
+
+fn first_line(number: usize, body: &[u8]) -> String {
+    format!("slice {number} {}\n", kind().value(body))
+}
