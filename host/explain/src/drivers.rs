@@ -1,0 +1,58 @@
+//! Pins driven by something that doesn't exist: refusal 7.
+
+use model::layout::*;
+use model::Rules;
+use text::names::{self, INPUTS, OUTPUTS, SLICE_CODES};
+
+use crate::fault::Fault;
+use crate::slice::Slice;
+use crate::words::below;
+
+/// How many of a slice's codes are outputs.
+const SLICE_OUTPUTS: usize = 12;
+
+pub fn faults(rules: &Rules, slice: &Slice) -> Vec<Fault> {
+    let fault = |pin: usize| {
+        let code = pin_code(&slice.body, pin);
+        let missing = (rules.driver)(code, slice.n, slice.m).is_none();
+        missing.then(|| {
+            let what = format!("pin {}", PIN_NAMES[pin]);
+            let at = PINS + 2 * pin;
+            slice.fault(7, &what, at..at + 2, stands(code), may(slice.n, slice.m))
+        })
+    };
+    (0..PIN_COUNT).filter_map(fault).collect()
+}
+
+/// A code, and what it would stand for in a larger column.
+fn stands(code: u16) -> String {
+    match (names::wire_of(code), code.checked_sub(OUTPUTS)) {
+        (Some(_), _) => format!("{code}, which would be {}", names::driver(code)),
+        (None, Some(output)) => {
+            let (slice, output) = (output / SLICE_CODES, output % SLICE_CODES);
+            format!("{code}, which would be output {output} of slice {slice}")
+        }
+        (None, None) => format!("{code}, which stands for nothing"),
+    }
+}
+
+/// The codes that exist in a column of n slices and m inputs.
+fn may(n: usize, m: usize) -> String {
+    let inputs = match m {
+        0 => String::new(),
+        1 => format!("{INPUTS} (in 0); "),
+        _ => {
+            let last = usize::from(INPUTS) + m - 1;
+            format!("{INPUTS} to {last} (in 0 to in {}); ", m - 1)
+        }
+    };
+    let outputs = below(SLICE_OUTPUTS);
+    let outputs = match n {
+        1 => format!("{OUTPUTS} + k for output k ({outputs}) of slice 0"),
+        _ => format!(
+            "{OUTPUTS} + {SLICE_CODES}s + k for output k ({outputs}) of slice s ({})",
+            below(n)
+        ),
+    };
+    format!("0 or 1; {inputs}{outputs}")
+}
