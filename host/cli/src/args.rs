@@ -1,0 +1,121 @@
+//! The words of the command.
+
+use std::path::PathBuf;
+
+use clap::{Args, Parser, Subcommand};
+use clap_complete::Shell;
+
+/// Judges slice files of paper-pattern cutters, explains what is wrong with one, shows and writes them as text, and runs them.
+///
+/// FILE is a slice file, or `-` for standard input. Where a design is run, shown, compared or exported it may be a text as well.
+/// Verdicts, values and states are those of the proved library.
+#[derive(Parser)]
+#[command(name = "quagmuffin", version, after_help = STATUSES)]
+#[command(disable_help_subcommand = true)]
+pub struct Cli {
+    #[command(subcommand)]
+    pub command: Command,
+}
+
+const STATUSES: &str =
+    "The exit status is 0, or 1 for a refused file (diff: for two that differ), or 2 where the command can't do what it was asked, which it says in one line.
+
+README.md has a tour, docs/TEXT.md the text form.";
+
+#[derive(Subcommand)]
+pub enum Command {
+    /// Say for each file `accepted N M` (slices, outside inputs) or `refused NUMBER PLACE`
+    Judge {
+        /// Slice files; where there is more than one, each line begins with the file's name
+        #[arg(value_name = "FILE", required = true)]
+        files: Vec<PathBuf>,
+    },
+    /// Say in words what is wrong with a file, and where: every fault, the judge's first
+    Explain {
+        /// A slice file
+        file: PathBuf,
+    },
+    /// Write a design as text, also where it is refused 5, 6, 7 or 9
+    Show {
+        /// A slice file or a text
+        file: PathBuf,
+        /// Only this slice
+        #[arg(long, value_name = "S")]
+        slice: Option<usize>,
+    },
+    /// Make a slice file of a text, and judge it; it is written also where it is refused
+    Write {
+        /// A text; docs/TEXT.md has the form
+        text: PathBuf,
+        /// The slice file to write
+        #[arg(short, long, value_name = "FILE")]
+        output: PathBuf,
+    },
+    /// Power a design up and clock it: a table of the watched signals, or waves
+    #[command(after_help = RUN)]
+    Run(Run),
+    /// Say field by field where two designs differ, in the words of the text form
+    Diff {
+        /// A slice file or a text
+        a: PathBuf,
+        /// A slice file or a text
+        b: PathBuf,
+    },
+    /// Write a design as Verilog over the vendor's primitives, with a test bench
+    Verilog {
+        /// A slice file or a text
+        file: PathBuf,
+        #[command(flatten)]
+        stimulus: Stimulus,
+    },
+    /// Write a script that completes the words of this command
+    Completions {
+        /// The shell it is for
+        #[arg(value_enum)]
+        shell: Shell,
+    },
+}
+
+/// The most clocks of a run.
+pub const MOST_CLOCKS: u32 = 1_000_000;
+
+/// What a design is clocked with.
+#[derive(Args)]
+pub struct Stimulus {
+    /// So many clocks, 1 to 1000000 [default: one for each line of inputs, or 10]
+    #[arg(long, value_name = "K", value_parser = clap::value_parser!(u32).range(1..=i64::from(MOST_CLOCKS)))]
+    pub clocks: Option<u32>,
+    /// The outside inputs, a line of digits 0 and 1 for each clock, the last one held; a first line such as `inputs step in3` names those that are given
+    #[arg(long, value_name = "FILE")]
+    pub inputs: Option<PathBuf>,
+}
+
+#[derive(Args)]
+pub struct Run {
+    /// A slice file or a text
+    pub file: PathBuf,
+    #[command(flatten)]
+    pub stimulus: Stimulus,
+    /// Signals, inputs and names of the text, with commas between them; `*` stands for any letters [default: the text's names, or the inputs and main flip-flops]
+    #[arg(long, value_name = "SIGNALS", value_delimiter = ',')]
+    pub watch: Vec<String>,
+    /// Change an input or a table's contents before a clock: `3: in 0 = 1`, `8: s0.A = A1 & A2`
+    #[arg(long, value_name = "EDIT")]
+    pub edit: Vec<String>,
+    /// The same, an edit on each line
+    #[arg(long, value_name = "FILE")]
+    pub edits: Option<PathBuf>,
+    /// Write the waves in place of the table; without --watch those of all signals
+    #[arg(long, value_name = "OUT")]
+    pub vcd: Option<PathBuf>,
+    /// Write comma-separated values in place of the table
+    #[arg(long, value_name = "OUT")]
+    pub csv: Option<PathBuf>,
+}
+
+const RUN: &str =
+    "A row has the signals settled before that clock's edge; clock 0 is the first after power-up. At each clock the line of the inputs is taken first, then the edits are made in their order. An input keeps what it was set to until another line or edit sets it. docs/TEXT.md has the forms of inputs and edits.
+
+  quagmuffin run examples/accumulator.txt --inputs examples/accumulator.inputs
+  quagmuffin run FILE --clocks 40 --watch 's0.*Q,in0' --edit '20: in 0 = 1'
+  quagmuffin run FILE --clocks 1000 --vcd waves.vcd && gtkwave waves.vcd";

@@ -1,0 +1,148 @@
+//! The commands that look at a file and don't run it.
+
+use std::io::{stdout, Write};
+use std::path::{Path, PathBuf};
+
+use explain::{Explained, Fault};
+use export::Netlist;
+use quagmuffin::{judge, Accepted, Refused};
+
+use crate::args::Stimulus;
+use crate::failure::{name, Failure, Outcome};
+use crate::run::inputs::Inputs;
+use crate::source;
+
+/// Writes to standard output.
+pub fn say(text: impl AsRef<[u8]>) -> Outcome<()> {
+    let written = stdout()
+        .write_all(text.as_ref())
+        .and_then(|()| stdout().flush());
+    written.map_err(|error| Failure::io("standard output", &error))
+}
+
+/// The program's line for a file, and the exit status that is its verdict.
+fn verdict(file: &[u8]) -> (String, u8) {
+    match judge(file) {
+        Ok(Accepted { n, m }) => (format!("accepted {n} {m}"), 0),
+        Err(Refused { number, place }) => (format!("refused {number} {place}"), 1),
+    }
+}
+
+/// All files are read before the first line is written.
+pub fn judge_files(paths: &[PathBuf]) -> Outcome<u8> {
+    let files: Vec<Vec<u8>> = paths
+        .iter()
+        .map(|path| source::slice_file(path))
+        .collect::<Result<_, _>>()?;
+    let mut worst = 0;
+    let mut text = String::new();
+    for (path, file) in paths.iter().zip(&files) {
+        let (line, status) = verdict(file);
+        worst = worst.max(status);
+        text += &match paths.len() {
+            1 => format!("{line}\n"),
+            _ => format!("{}: {line}\n", name(path)),
+        };
+    }
+    say(text)?;
+    Ok(worst)
+}
+
+/// The verdict is the library's; the second program words it, and has to agree.
+pub fn explain_file(path: &Path) -> Outcome<u8> {
+    let file = source::slice_file(path)?;
+    let (line, status) = verdict(&file);
+    let Explained { faults, note } = explain::explain(&file);
+    let (count, worded) = match &faults[..] {
+        [] => ("no fault".to_string(), None),
+        [first] => ("one fault".to_string(), Some(first)),
+        [first, ..] => (format!("{} faults", faults.len()), Some(first)),
+    };
+    let name = name(path);
+    let worded = worded.map(|fault| format!("refused {} {}", fault.number, fault.place));
+    if worded.as_ref() != (status == 1).then_some(&line) {
+        return Err(Failure::of(format!(
+            "{name}: {line}, but the explanation is of something else: please report it with the file"
+        )));
+    }
+    let mut text = format!("{name}: {line}: {count}\n");
+    let faults = faults.iter().map(Fault::to_string);
+    let blocks = faults.chain(note).chain(rest(&file)).chain(hint(&file));
+    blocks.for_each(|block| text += &format!("\n{block}\n"));
+    say(text)?;
+    Ok(status)
+}
+
+/// Bytes of a long file that were left alone: none of them changes the verdict.
+fn rest(file: &[u8]) -> Option<String> {
+    let most = source::DECIDING;
+    (file.len() == most).then(|| format!("Only the first {most} bytes were looked at."))
+}
+
+/// Of a text the judge can only say that it is no slice file.
+fn hint(file: &[u8]) -> Option<String> {
+    source::is_text(file)
+        .then(|| "This looks like a text: quagmuffin write makes a slice file of it.".to_string())
+}
+
+/// A refused design has its verdict in a comment.
+pub fn show(path: &Path, slice: Option<usize>) -> Outcome<u8> {
+    let design = source::design(path)?;
+    let records = design.records()?;
+    let shown = match slice {
+        None => text::show(&records),
+        Some(number) => text::show_slice(&records, number).ok_or_else(|| {
+            Failure::of(format!(
+                "{}: no slice {number}: there are {}, from 0 on",
+                design.name, records.n
+            ))
+        })?,
+    };
+    let comment = match verdict(&design.file) {
+        (_, 0) => String::new(),
+        (line, _) => format!("# {line}; quagmuffin explain says why\n"),
+    };
+    say(comment + &shown)?;
+    Ok(0)
+}
+
+/// Says the verdict on what was written, unless that went to standard output itself.
+pub fn write(text: &Path, output: &Path) -> Outcome<u8> {
+    let file = source::text(text)?.records.bytes();
+    let (line, status) = verdict(&file);
+    if output.as_os_str() == "-" {
+        say(&file)?;
+    } else {
+        std::fs::write(output, &file).map_err(|error| Failure::io(&name(output), &error))?;
+        say(format!("{}: {line}\n", name(output)))?;
+    }
+    Ok(status)
+}
+
+pub fn diff(a: &Path, b: &Path) -> Outcome<u8> {
+    let records = |path| source::design(path)?.records();
+    let differing = |failure: Failure| Failure {
+        status: 2,
+        ..failure
+    };
+    let (a, b) = (
+        records(a).map_err(differing)?,
+        records(b).map_err(differing)?,
+    );
+    let changes = text::changes(&a, &b);
+    say(&changes)?;
+    Ok(u8::from(!changes.is_empty()))
+}
+
+pub fn verilog(path: &Path, stimulus: &Stimulus) -> Outcome<u8> {
+    let design = source::design(path)?;
+    let size = design.column()?.size();
+    let inputs = Inputs::read(stimulus, &design.names, size.m)?;
+    let decoded = model::Design::decode(&model::Rules::paper(), &design.file, size.n, size.m);
+    let stimulus = export::Stimulus {
+        clocks: inputs.clocks,
+        inputs: inputs.digits(),
+    };
+    say(export::verilog(&Netlist::of(&decoded), &stimulus))?;
+    Ok(0)
+}

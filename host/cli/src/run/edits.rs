@@ -1,0 +1,142 @@
+//! Edits before clocks of a run.
+
+use quagmuffin::{Accepted, Answer, Column, Refused};
+use text::lines::{Line, Mistake};
+use text::parse::input;
+use text::Names;
+
+use crate::args::Run;
+use crate::failure::{name, Failure, Outcome};
+use crate::source::{self, LONGEST_TEXT};
+
+/// What an edit changes, and to what.
+#[derive(Clone, Copy, Debug, PartialEq)]
+enum Change {
+    Input(usize, u8),
+    Table(usize, u64),
+}
+
+/// A change before a clock, and the words that say it.
+#[derive(Clone, Debug, PartialEq)]
+pub struct Edit {
+    clock: usize,
+    change: Change,
+    text: String,
+}
+
+/// The edits of a run, by their clocks.
+pub struct Edits(Vec<Edit>);
+
+impl Edits {
+    /// Those of the words, then those of the file. Each is tried on a copy of the column: what the library refuses is told before the run.
+    pub fn read(words: &Run, names: &Names, column: &Column, clocks: usize) -> Outcome<Edits> {
+        let size = column.size();
+        let mut edits = vec![];
+        for text in &words.edit {
+            edits.extend(parse("--edit", text, names, size, clocks)?);
+        }
+        if let Some(path) = &words.edits {
+            let text = source::any_text(path, LONGEST_TEXT)?;
+            edits.extend(parse(&name(path), &text, names, size, clocks)?);
+        }
+        for edit in &edits {
+            edit.make(&mut column.clone())
+                .map_err(|refused| edit.refused(refused))?;
+        }
+        edits.sort_by_key(|edit| edit.clock);
+        Ok(Edits(edits))
+    }
+
+    /// The edits before a clock, in their order.
+    pub fn before(&self, clock: usize) -> &[Edit] {
+        let start = self.0.partition_point(|edit| edit.clock < clock);
+        let end = self.0.partition_point(|edit| edit.clock <= clock);
+        &self.0[start..end]
+    }
+}
+
+impl Edit {
+    /// Makes it by the library's call.
+    pub fn make(&self, column: &mut Column) -> Answer {
+        match self.change {
+            Change::Input(input, byte) => column.edit_input(input, byte),
+            Change::Table(table, word) => column.edit_table(table, word),
+        }
+    }
+
+    /// All else was looked at when the words were read.
+    fn refused(&self, refused: Refused) -> Failure {
+        let Refused { number, place } = refused;
+        let text = &self.text;
+        Failure::of(format!(
+            "{text}: refused {number} {place}: in shift mode a table holds 32 bits"
+        ))
+    }
+}
+
+/// An edit on each line of a text.
+fn parse(
+    name: &str,
+    text: &str,
+    names: &Names,
+    size: Accepted,
+    clocks: usize,
+) -> Outcome<Vec<Edit>> {
+    let mut edits = vec![];
+    for (number, words) in (1..).zip(text.lines()) {
+        let mut line = Line::new(number, words);
+        if line.peek().is_some() {
+            let edit = edit(&mut line, words, names, size, clocks);
+            edits.push(edit.map_err(|mistake| source::mistaken(name, text, &mistake))?);
+        }
+    }
+    Ok(edits)
+}
+
+/// `3: in 0 = 1` or `8: s0.A = A1 & A2`.
+fn edit(
+    line: &mut Line,
+    words: &str,
+    names: &Names,
+    size: Accepted,
+    clocks: usize,
+) -> Result<Edit, Mistake> {
+    let clock = line.number(clocks - 1)?;
+    due(line, ":")?;
+    let table = line.peek().and_then(|word| table(word, size.n));
+    let change = match table {
+        Some(table) => {
+            line.skip();
+            due(line, "=")?;
+            Change::Table(table, text::contents::parse(line, table % 4)?)
+        }
+        None => {
+            let input = input(line, names, size.m)?;
+            due(line, "=")?;
+            Change::Input(input, line.number(1)? as u8)
+        }
+    };
+    line.ended()?;
+    let text = words.split('#').next().unwrap_or(words).trim().to_string();
+    Ok(Edit {
+        clock,
+        change,
+        text,
+    })
+}
+
+fn due(line: &mut Line, symbol: &str) -> Result<(), Mistake> {
+    match line.take(symbol) {
+        true => Ok(()),
+        false => Err(line.mistake(&format!(
+            "a `{symbol}` is due, as in `3: in 0 = 1` or `8: s0.A = A1 & A2`"
+        ))),
+    }
+}
+
+/// The number of a table by its name, `s0.A`.
+fn table(word: &str, n: usize) -> Option<usize> {
+    let signal = text::names::signal_named(&format!("{word}.O6"))?;
+    let (slice, letter) = (signal / 32, signal % 32);
+    (slice < n).then_some(4 * slice + letter)
+}

@@ -1,0 +1,122 @@
+//! The outside inputs of a run, clock by clock.
+
+use text::lines::{Line, Mistake};
+use text::parse::input;
+use text::Names;
+
+use crate::args::{Stimulus, MOST_CLOCKS};
+use crate::failure::{name, Outcome};
+use crate::source;
+
+/// The clocks of a run where nothing says how many.
+const USUAL_CLOCKS: usize = 10;
+
+/// The most lines of inputs, and the bytes that they take with 64 digits each and a space after each.
+const MOST_ROWS: usize = MOST_CLOCKS as usize;
+const LONGEST_INPUTS: usize = MOST_ROWS * 128;
+
+/// How many clocks there are, and the inputs of the first of them.
+#[derive(Debug, PartialEq)]
+pub struct Inputs {
+    pub clocks: usize,
+    m: usize,
+    /// The inputs that a row gives.
+    given: Vec<usize>,
+    rows: Vec<Vec<u8>>,
+}
+
+impl Inputs {
+    pub fn read(stimulus: &Stimulus, names: &Names, m: usize) -> Outcome<Inputs> {
+        let (given, rows) = match &stimulus.inputs {
+            None => (vec![], vec![]),
+            Some(path) => {
+                let text = source::any_text(path, LONGEST_INPUTS)?;
+                parse(&text, names, m)
+                    .map_err(|mistake| source::mistaken(&name(path), &text, &mistake))?
+            }
+        };
+        let clocks = match (stimulus.clocks, rows.len()) {
+            (Some(clocks), _) => clocks as usize,
+            (None, 0) => USUAL_CLOCKS,
+            (None, rows) => rows,
+        };
+        Ok(Inputs {
+            clocks,
+            m,
+            given,
+            rows,
+        })
+    }
+
+    /// Sets the inputs that a clock's row gives; without a row all stay as they are.
+    pub fn set(&self, clock: usize, inputs: &mut [u8]) {
+        let row = self.rows.get(clock).into_iter().flatten();
+        for (&input, &bit) in self.given.iter().zip(row) {
+            inputs[input] = bit;
+        }
+    }
+
+    /// All inputs of each clock that has a row, as digits.
+    pub fn digits(&self) -> Vec<String> {
+        let mut inputs = vec![0; self.m];
+        let digits = |clock| {
+            self.set(clock, &mut inputs);
+            inputs.iter().map(u8::to_string).collect()
+        };
+        (0..self.rows.len().min(self.clocks)).map(digits).collect()
+    }
+}
+
+/// The inputs that are given, and a row for each clock.
+fn parse(text: &str, names: &Names, m: usize) -> Result<(Vec<usize>, Vec<Vec<u8>>), Mistake> {
+    let mut given: Vec<usize> = (0..m).collect();
+    let mut rows = vec![];
+    for (number, line) in (1..).zip(text.lines()) {
+        let mut line = Line::new(number, line);
+        match line.peek() {
+            None => {}
+            Some("inputs") if rows.is_empty() => given = header(&mut line, names, m)?,
+            Some(_) if rows.len() == MOST_ROWS => {
+                return Err(line.mistake(&format!("there are at most {MOST_ROWS} lines of inputs")));
+            }
+            Some(_) => rows.push(row(&mut line, given.len())?),
+        }
+    }
+    Ok((given, rows))
+}
+
+/// `inputs step in3 0`: by name or by number.
+fn header(line: &mut Line, names: &Names, m: usize) -> Result<Vec<usize>, Mistake> {
+    line.skip();
+    let mut given = vec![];
+    while line.peek().is_some() {
+        let here = line.mistake("this input is given already");
+        let next = input(line, names, m)?;
+        if given.contains(&next) {
+            return Err(here);
+        }
+        given.push(next);
+    }
+    Ok(given)
+}
+
+/// Digits, with or without spaces between them.
+fn row(line: &mut Line, count: usize) -> Result<Vec<u8>, Mistake> {
+    let mut bits = vec![];
+    while let Some(word) = line.peek() {
+        let is_bits = word.bytes().all(|x| matches!(x, b'0' | b'1'));
+        if !is_bits || bits.len() + word.len() > count {
+            return Err(line.mistake(&wanted(count)));
+        }
+        bits.extend(word.bytes().map(|x| x - b'0'));
+        line.skip();
+    }
+    match bits.len() == count {
+        true => Ok(bits),
+        false => Err(line.mistake(&wanted(count))),
+    }
+}
+
+fn wanted(count: usize) -> String {
+    format!("a digit 0 or 1 is due for each input that is given, {count} in all")
+}
