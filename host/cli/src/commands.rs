@@ -106,16 +106,23 @@ pub fn show(path: &Path, slice: Option<usize>) -> Outcome<u8> {
     Ok(0)
 }
 
-/// Says the verdict on what was written, unless that went to standard output itself.
+/// Says the verdict on what was written, unless that went to standard output itself. The text isn't written over.
 pub fn write(text: &Path, output: &Path) -> Outcome<u8> {
     let file = source::text(text)?.records.bytes();
     let (line, status) = verdict(&file);
     if output.as_os_str() == "-" {
         say(&file)?;
-    } else {
-        std::fs::write(output, &file).map_err(|error| Failure::io(&name(output), &error))?;
-        say(format!("{}: {line}\n", name(output)))?;
+        return Ok(status);
     }
+    let name = name(output);
+    if output
+        .canonicalize()
+        .is_ok_and(|output| text.canonicalize().is_ok_and(|text| text == output))
+    {
+        return Err(Failure::of(format!("{name}: is the text itself")));
+    }
+    std::fs::write(output, &file).map_err(|error| Failure::io(&name, &error))?;
+    say(format!("{name}: {line}\n"))?;
     Ok(status)
 }
 

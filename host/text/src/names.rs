@@ -43,9 +43,9 @@ pub fn input_named(name: &str) -> Option<usize> {
     number(name.strip_prefix("in")?)
 }
 
-/// A decimal number of at most five digits, written in the one way that there is.
+/// A decimal number of at most seven digits, written in the one way that there is.
 pub fn number(digits: &str) -> Option<usize> {
-    let is_number = digits.len() <= 5 && digits.bytes().all(|x| x.is_ascii_digit());
+    let is_number = digits.len() <= 7 && digits.bytes().all(|x| x.is_ascii_digit());
     let is_short = digits == "0" || !digits.starts_with('0');
     digits.parse().ok().filter(|_| is_number && is_short)
 }
@@ -148,7 +148,7 @@ mod tests {
             "sx.AQ",
             "s00.AQ",
             "s+1.AQ",
-            "s100000.AQ",
+            "s10000000.AQ",
             "AQ",
             "s0.A",
         ] {

@@ -1,5 +1,7 @@
 //! Edits before clocks of a run.
 
+use model::design::SIGNALS;
+use model::layout::LETTERS;
 use quagmuffin::{Accepted, Answer, Column, Refused};
 use text::lines::{Line, Mistake};
 use text::parse::input;
@@ -24,23 +26,36 @@ pub struct Edit {
     text: String,
 }
 
+/// What an edit can speak of: the names of the text, the column's inputs and tables, the clocks of the run.
+struct Scope<'a> {
+    names: &'a Names,
+    size: Accepted,
+    clocks: usize,
+}
+
 /// The edits of a run, by their clocks.
 pub struct Edits(Vec<Edit>);
 
 impl Edits {
-    /// Those of the words, then those of the file. Each is tried on a copy of the column: what the library refuses is told before the run.
+    /// Those of the words, then those of the file. They are tried on a copy of the column: what the library refuses is told before the run.
     pub fn read(words: &Run, names: &Names, column: &Column, clocks: usize) -> Outcome<Edits> {
         let size = column.size();
+        let scope = Scope {
+            names,
+            size,
+            clocks,
+        };
         let mut edits = vec![];
         for text in &words.edit {
-            edits.extend(parse("--edit", text, names, size, clocks)?);
+            edits.extend(parse("--edit", text, &scope)?);
         }
         if let Some(path) = &words.edits {
             let text = source::any_text(path, LONGEST_TEXT)?;
-            edits.extend(parse(&name(path), &text, names, size, clocks)?);
+            edits.extend(parse(&name(path), &text, &scope)?);
         }
+        let mut copy = column.clone();
         for edit in &edits {
-            edit.make(&mut column.clone())
+            edit.make(&mut copy)
                 .map_err(|refused| edit.refused(refused))?;
         }
         edits.sort_by_key(|edit| edit.clock);
@@ -75,18 +90,12 @@ impl Edit {
 }
 
 /// An edit on each line of a text.
-fn parse(
-    name: &str,
-    text: &str,
-    names: &Names,
-    size: Accepted,
-    clocks: usize,
-) -> Outcome<Vec<Edit>> {
+fn parse(name: &str, text: &str, scope: &Scope) -> Outcome<Vec<Edit>> {
     let mut edits = vec![];
     for (number, words) in (1..).zip(text.lines()) {
         let mut line = Line::new(number, words);
         if line.peek().is_some() {
-            let edit = edit(&mut line, words, names, size, clocks);
+            let edit = edit(&mut line, words, scope);
             edits.push(edit.map_err(|mistake| source::mistaken(name, text, &mistake))?);
         }
     }
@@ -94,24 +103,18 @@ fn parse(
 }
 
 /// `3: in 0 = 1` or `8: s0.A = A1 & A2`.
-fn edit(
-    line: &mut Line,
-    words: &str,
-    names: &Names,
-    size: Accepted,
-    clocks: usize,
-) -> Result<Edit, Mistake> {
-    let clock = line.number(clocks - 1)?;
+fn edit(line: &mut Line, words: &str, scope: &Scope) -> Result<Edit, Mistake> {
+    let clock = line.number(scope.clocks - 1)?;
     due(line, ":")?;
-    let table = line.peek().and_then(|word| table(word, size.n));
+    let table = line.peek().and_then(|word| table(word, scope.size.n));
     let change = match table {
         Some(table) => {
             line.skip();
             due(line, "=")?;
-            Change::Table(table, text::contents::parse(line, table % 4)?)
+            Change::Table(table, text::contents::parse(line, table % LETTERS.len())?)
         }
         None => {
-            let input = input(line, names, size.m)?;
+            let input = input(line, scope.names, scope.size.m)?;
             due(line, "=")?;
             Change::Input(input, line.number(1)? as u8)
         }
@@ -134,9 +137,9 @@ fn due(line: &mut Line, symbol: &str) -> Result<(), Mistake> {
     }
 }
 
-/// The number of a table by its name, `s0.A`.
+/// The number of a table by its name, `s0.A`: letter A has O6 as its slice's signal 0, and so on.
 fn table(word: &str, n: usize) -> Option<usize> {
     let signal = text::names::signal_named(&format!("{word}.O6"))?;
-    let (slice, letter) = (signal / 32, signal % 32);
-    (slice < n).then_some(4 * slice + letter)
+    let (slice, letter) = (signal / SIGNALS, signal % SIGNALS);
+    (slice < n).then_some(LETTERS.len() * slice + letter)
 }

@@ -178,6 +178,13 @@ fn write_statuses() {
         &folder.run(&["write", "text", "-o", "."]),
         "quagmuffin: .: Is a directory",
     );
+    folder.put("here", b"slices 1\n");
+    let same = ["write", "here", "-o", "./here"];
+    assert_fails(
+        &folder.run(&same),
+        "quagmuffin: ./here: is the text itself\n",
+    );
+    assert_eq!(folder.get("here"), b"slices 1\n");
 }
 
 /// A mistake is said with its line and column, the line shown and marked, and nothing is written.
