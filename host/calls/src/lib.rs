@@ -1,6 +1,8 @@
 //! The exported calls, behind functions that are safe to call: slices in, an answer out. Tests and benchmarks use them, because they lend
 //! buffers of any length; a host uses the crate `quagmuffin`, which has the buffers of a file.
 
+use std::fmt;
+
 mod exported {
     extern "C" {
         pub fn qm_judge(file: *const u8, file_len: usize) -> u64;
@@ -102,6 +104,32 @@ pub struct Refused {
 pub struct Accepted {
     pub n: usize,
     pub m: usize,
+}
+
+impl Accepted {
+    /// The words of its contents, one a table.
+    pub fn tables(self) -> usize {
+        4 * self.n
+    }
+
+    /// The bytes of its values, one a signal.
+    pub fn signals(self) -> usize {
+        32 * self.n
+    }
+}
+
+/// As the program writes it.
+impl fmt::Display for Refused {
+    fn fmt(&self, out: &mut fmt::Formatter) -> fmt::Result {
+        write!(out, "refused {} {}", self.number, self.place)
+    }
+}
+
+/// As the program writes it.
+impl fmt::Display for Accepted {
+    fn fmt(&self, out: &mut fmt::Formatter) -> fmt::Result {
+        write!(out, "accepted {} {}", self.n, self.m)
+    }
 }
 
 /// What a call that gives nothing back answers.

@@ -1,9 +1,10 @@
 //! The words of the command.
 
-use std::path::PathBuf;
+use std::path::{Path, PathBuf};
 
 use clap::{Args, Parser, Subcommand};
 use clap_complete::Shell;
+use export::bench::MOST_CLOCKS;
 
 /// Judges slice files of paper-pattern cutters, explains what is wrong with one, shows and writes them as text, and runs them.
 ///
@@ -18,7 +19,7 @@ pub struct Cli {
 }
 
 const STATUSES: &str =
-    "The exit status is 0, or 1 for a refused file (diff: for two that differ), or 2 where the command can't do what it was asked, which it says in one line.
+    "The exit status is 0, or 1 for a refused file (diff: for two that differ), or 2 where the command can't do what it was asked, which it says.
 
 README.md has a tour, docs/TEXT.md the text form.";
 
@@ -47,7 +48,7 @@ pub enum Command {
     Write {
         /// A text; docs/TEXT.md has the form
         text: PathBuf,
-        /// The slice file to write
+        /// The slice file to write, or `-` for standard output
         #[arg(short, long, value_name = "FILE")]
         output: PathBuf,
     },
@@ -76,14 +77,11 @@ pub enum Command {
     },
 }
 
-/// The most clocks of a run.
-pub const MOST_CLOCKS: u32 = 1_000_000;
-
 /// What a design is clocked with.
 #[derive(Args)]
 pub struct Stimulus {
     /// So many clocks, 1 to 1000000 [default: one for each line of inputs, or 10]
-    #[arg(long, value_name = "K", value_parser = clap::value_parser!(u32).range(1..=i64::from(MOST_CLOCKS)))]
+    #[arg(long, value_name = "K", value_parser = clap::value_parser!(u32).range(1..=MOST_CLOCKS as i64))]
     pub clocks: Option<u32>,
     /// The outside inputs, a line of digits 0 and 1 for each clock, the last one held; a first line such as `inputs step in3` names those that are given
     #[arg(long, value_name = "FILE")]
@@ -96,21 +94,29 @@ pub struct Run {
     pub file: PathBuf,
     #[command(flatten)]
     pub stimulus: Stimulus,
-    /// Signals, inputs and names of the text, with commas between them; `*` stands for any letters [default: the text's names, or the inputs and main flip-flops]
+    /// Signals by name or number, inputs and names of the text, with commas between them; `*` stands for any letters [default: the text's names, or the inputs and main flip-flops]
     #[arg(long, value_name = "SIGNALS", value_delimiter = ',')]
     pub watch: Vec<String>,
     /// Change an input or a table's contents before a clock: `3: in 0 = 1`, `8: s0.A = A1 & A2`
     #[arg(long, value_name = "EDIT")]
     pub edit: Vec<String>,
-    /// The same, an edit on each line
+    /// The same, an edit on each line; made after those of --edit
     #[arg(long, value_name = "FILE")]
     pub edits: Option<PathBuf>,
-    /// Write the waves in place of the table; without --watch those of all signals
+    /// Write the waves to a file in place of the table; without --watch those of all signals
     #[arg(long, value_name = "OUT")]
     pub vcd: Option<PathBuf>,
-    /// Write comma-separated values in place of the table
+    /// Write comma-separated values to a file, or to standard output for `-`, in place of the table
     #[arg(long, value_name = "OUT")]
     pub csv: Option<PathBuf>,
+}
+
+impl Run {
+    /// The files that it reads.
+    pub fn read_files(&self) -> impl Iterator<Item = &Path> {
+        let others = [self.stimulus.inputs.as_deref(), self.edits.as_deref()];
+        [Some(&*self.file)].into_iter().chain(others).flatten()
+    }
 }
 
 const RUN: &str =

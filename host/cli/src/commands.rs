@@ -1,30 +1,22 @@
 //! The commands that look at a file and don't run it.
 
-use std::io::{stdout, Write};
 use std::path::{Path, PathBuf};
 
 use explain::{Explained, Fault};
 use export::Netlist;
-use quagmuffin::{judge, Accepted, Refused};
+use quagmuffin::{judge, Refused};
 
 use crate::args::Stimulus;
 use crate::failure::{name, Failure, Outcome};
+use crate::output::{say, Used};
 use crate::run::inputs::Inputs;
 use crate::source;
-
-/// Writes to standard output.
-pub fn say(text: impl AsRef<[u8]>) -> Outcome<()> {
-    let written = stdout()
-        .write_all(text.as_ref())
-        .and_then(|()| stdout().flush());
-    written.map_err(|error| Failure::io("standard output", &error))
-}
 
 /// The program's line for a file, and the exit status that is its verdict.
 fn verdict(file: &[u8]) -> (String, u8) {
     match judge(file) {
-        Ok(Accepted { n, m }) => (format!("accepted {n} {m}"), 0),
-        Err(Refused { number, place }) => (format!("refused {number} {place}"), 1),
+        Ok(accepted) => (accepted.to_string(), 0),
+        Err(refused) => (refused.to_string(), 1),
     }
 }
 
@@ -59,7 +51,11 @@ pub fn explain_file(path: &Path) -> Outcome<u8> {
         [first, ..] => (format!("{} faults", faults.len()), Some(first)),
     };
     let name = name(path);
-    let worded = worded.map(|fault| format!("refused {} {}", fault.number, fault.place));
+    let refused = |fault: &Fault| Refused {
+        number: fault.number,
+        place: fault.place as u64,
+    };
+    let worded = worded.map(|fault| refused(fault).to_string());
     if worded.as_ref() != (status == 1).then_some(&line) {
         return Err(Failure::of(format!(
             "{name}: {line}, but the explanation is of something else: please report it with the file"
@@ -75,7 +71,7 @@ pub fn explain_file(path: &Path) -> Outcome<u8> {
 
 /// Bytes of a long file that were left alone: none of them changes the verdict.
 fn rest(file: &[u8]) -> Option<String> {
-    let most = source::DECIDING;
+    let most = source::deciding();
     (file.len() == most).then(|| format!("Only the first {most} bytes were looked at."))
 }
 
@@ -106,23 +102,16 @@ pub fn show(path: &Path, slice: Option<usize>) -> Outcome<u8> {
     Ok(0)
 }
 
-/// Says the verdict on what was written, unless that went to standard output itself. The text isn't written over.
+/// Says the verdict on what was written, unless that went to standard output itself.
 pub fn write(text: &Path, output: &Path) -> Outcome<u8> {
     let file = source::text(text)?.records.bytes();
     let (line, status) = verdict(&file);
-    if output.as_os_str() == "-" {
-        say(&file)?;
-        return Ok(status);
+    let mut sink = Used::by_reading([text]).create(output)?;
+    sink.write(&file)?;
+    sink.flush()?;
+    if output.as_os_str() != "-" {
+        say(format!("{}: {line}\n", name(output)))?;
     }
-    let name = name(output);
-    if output
-        .canonicalize()
-        .is_ok_and(|output| text.canonicalize().is_ok_and(|text| text == output))
-    {
-        return Err(Failure::of(format!("{name}: is the text itself")));
-    }
-    std::fs::write(output, &file).map_err(|error| Failure::io(&name, &error))?;
-    say(format!("{name}: {line}\n"))?;
     Ok(status)
 }
 

@@ -5,6 +5,7 @@ use std::io;
 use std::path::Path;
 
 use quagmuffin::Refused;
+use text::lines::plain;
 
 /// The exit status, and what is said on standard error, which may be nothing.
 #[derive(Debug)]
@@ -35,21 +36,17 @@ impl Failure {
 
     /// A file that is refused can't be worked with.
     pub fn refused(name: &str, refused: Refused) -> Failure {
-        let Refused { number, place } = refused;
         Failure {
             status: 1,
-            said: format!(
-                "quagmuffin: {name}: refused {number} {place}; quagmuffin explain says why"
-            ),
+            ..Failure::of(format!("{name}: {refused}; quagmuffin explain says why"))
         }
     }
 }
 
 /// The name of a file as it is said: on one line, whatever it holds.
 pub fn name(path: &Path) -> String {
-    if path.as_os_str() == "-" {
-        return "standard input".to_string();
+    match path.as_os_str() == "-" {
+        true => "standard input".to_string(),
+        false => plain(&path.to_string_lossy()),
     }
-    let plain = |x: char| if x.is_control() { '?' } else { x };
-    path.to_string_lossy().chars().map(plain).collect()
 }

@@ -3,15 +3,19 @@
 mod args;
 mod commands;
 mod failure;
+mod output;
 mod run;
 mod source;
 
+use std::io::{stderr, Write};
 use std::process::ExitCode;
 
 use args::{Cli, Command};
 use clap::error::ErrorKind;
 use clap::{CommandFactory, Parser};
 use failure::{Failure, Outcome};
+use output::say;
+use text::lines::plain;
 
 fn main() -> ExitCode {
     let outcome = Cli::try_parse().map_or_else(|error| not_parsed(&error), |cli| run(cli.command));
@@ -19,7 +23,8 @@ fn main() -> ExitCode {
         Ok(status) => ExitCode::from(status),
         Err(Failure { status, said }) => {
             if !said.is_empty() {
-                eprintln!("{said}");
+                // Where it can't be said the status still tells.
+                let _ = writeln!(stderr(), "{said}");
             }
             ExitCode::from(status)
         }
@@ -38,7 +43,7 @@ fn run(command: Command) -> Outcome<u8> {
         Command::Completions { shell } => {
             let mut script = vec![];
             clap_complete::generate(shell, &mut Cli::command(), "quagmuffin", &mut script);
-            commands::say(script)?;
+            say(script)?;
             Ok(0)
         }
     }
@@ -46,27 +51,17 @@ fn run(command: Command) -> Outcome<u8> {
 
 /// Help and version were asked for, or the words are wrong, which is said in one line.
 fn not_parsed(error: &clap::Error) -> Outcome<u8> {
-    if matches!(
-        error.kind(),
-        ErrorKind::DisplayHelp | ErrorKind::DisplayVersion
-    ) {
-        commands::say(error.to_string().trim_end().to_string() + "\n")?;
-        return Ok(0);
-    }
     let text = match error.kind() {
+        ErrorKind::DisplayHelp | ErrorKind::DisplayVersion => {
+            say(error.to_string().trim_end().to_string() + "\n")?;
+            return Ok(0);
+        }
         ErrorKind::DisplayHelpOnMissingArgumentOrSubcommand => "no command is named".to_string(),
         _ => error.to_string(),
     };
     // What is wrong stands before the first empty line; after it come usage and hints.
-    let lines = text
-        .lines()
-        .take_while(|line| !line.is_empty())
-        .map(str::trim);
-    let line = lines.collect::<Vec<_>>().join(" ");
-    let line = line.strip_prefix("error: ").unwrap_or(&line);
-    let plain: String = line
-        .chars()
-        .map(|x| if x.is_control() { '?' } else { x })
-        .collect();
-    Err(Failure::of(format!("{plain}; --help says what there is")))
+    let lines = text.lines().take_while(|line| !line.is_empty());
+    let line = lines.map(str::trim).collect::<Vec<_>>().join(" ");
+    let line = plain(line.strip_prefix("error: ").unwrap_or(&line));
+    Err(Failure::of(format!("{line}; --help says what there is")))
 }

@@ -1,8 +1,10 @@
 //! What a command reads: slice files, texts, and designs in either form.
 
 use std::fs::File;
-use std::io::Read;
+use std::io::{self, Read};
+use std::os::fd::AsFd;
 use std::path::Path;
+use std::sync::atomic::{AtomicBool, Ordering};
 
 use quagmuffin::Column;
 use text::{Mistake, Name, Parsed, Records};
@@ -20,25 +22,35 @@ pub struct Design {
 }
 
 /// One byte more than the longest file has whose records are in order: no byte after these changes a verdict.
-pub const DECIDING: usize = text::records::LONGEST + 1;
+pub fn deciding() -> usize {
+    text::records::longest() + 1
+}
 
 /// A file as far as it decides.
 pub fn slice_file(path: &Path) -> Outcome<Vec<u8>> {
-    bytes(path, DECIDING)
+    bytes(path, deciding())
 }
 
-/// At most so many bytes of a file, or of standard input for `-`.
+/// Whether standard input was read.
+static STDIN_READ: AtomicBool = AtomicBool::new(false);
+
+/// At most so many bytes of a file, or of standard input for `-`, which can be read once.
 fn bytes(path: &Path, most: usize) -> Outcome<Vec<u8>> {
+    if path.as_os_str() == "-" && STDIN_READ.swap(true, Ordering::Relaxed) {
+        return Err(Failure::of("standard input is named twice"));
+    }
     let mut bytes = vec![];
-    let read = match path.as_os_str() == "-" {
-        true => std::io::stdin()
-            .lock()
-            .take(most as u64)
-            .read_to_end(&mut bytes),
-        false => File::open(path).and_then(|file| file.take(most as u64).read_to_end(&mut bytes)),
-    };
+    let read = open(path).and_then(|file| file.take(most as u64).read_to_end(&mut bytes));
     read.map_err(|error| Failure::io(&name(path), &error))?;
     Ok(bytes)
+}
+
+/// The standard library's own handle takes a standard input that can't be read for an empty one.
+fn open(path: &Path) -> io::Result<File> {
+    match path.as_os_str() == "-" {
+        true => Ok(File::from(io::stdin().as_fd().try_clone_to_owned()?)),
+        false => File::open(path),
+    }
 }
 
 /// A text of any kind, of at most so many bytes.

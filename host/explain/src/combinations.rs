@@ -116,13 +116,12 @@ fn cascade(part: Combination, slice: &Slice, letter: usize) -> Fault {
 }
 
 fn shift_with_high_bits(slice: &Slice, letter: usize) -> Fault {
-    let at = CONTENTS + 8 * letter;
     let word = contents(&slice.body, letter);
     let bits = set_bits(high_bits(slice, letter));
     let stands = format!("{word:#x} in shift mode: {bits} set");
     let what = format!("contents of {}", LETTER_NAMES[letter]);
     let may = "bits 32 to 63 all 0 in shift mode".to_string();
-    slice.fault(6, &what, at..at + 8, stands, may)
+    slice.fault(6, &what, contents_bytes(letter), stands, may)
 }
 
 /// `bit 40 is`, `bits 32 to 35 and 63 are`.

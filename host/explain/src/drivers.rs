@@ -2,14 +2,11 @@
 
 use model::layout::*;
 use model::Rules;
-use text::names::{self, INPUTS, OUTPUTS, SLICE_CODES};
+use text::names;
 
 use crate::fault::Fault;
 use crate::slice::Slice;
 use crate::words::below;
-
-/// How many of a slice's codes are outputs.
-const SLICE_OUTPUTS: usize = 12;
 
 pub fn faults(rules: &Rules, slice: &Slice) -> Vec<Fault> {
     let fault = |pin: usize| {
@@ -17,8 +14,8 @@ pub fn faults(rules: &Rules, slice: &Slice) -> Vec<Fault> {
         let missing = (rules.driver)(code, slice.n, slice.m).is_none();
         missing.then(|| {
             let what = format!("pin {}", PIN_NAMES[pin]);
-            let at = PINS + 2 * pin;
-            slice.fault(7, &what, at..at + 2, stands(code), may(slice.n, slice.m))
+            let (stands, may) = (stands(code), may(slice.n, slice.m));
+            slice.fault(7, &what, pin_bytes(pin), stands, may)
         })
     };
     (0..PIN_COUNT).filter_map(fault).collect()
@@ -26,7 +23,7 @@ pub fn faults(rules: &Rules, slice: &Slice) -> Vec<Fault> {
 
 /// A code, and what it would stand for in a larger column.
 fn stands(code: u16) -> String {
-    match (names::wire_of(code), code.checked_sub(OUTPUTS)) {
+    match (names::wire_of(code), code.checked_sub(OUTPUT_CODES)) {
         (Some(_), _) => format!("{code}, which would be {}", names::driver(code)),
         (None, Some(output)) => {
             let (slice, output) = (output / SLICE_CODES, output % SLICE_CODES);
@@ -40,17 +37,17 @@ fn stands(code: u16) -> String {
 fn may(n: usize, m: usize) -> String {
     let inputs = match m {
         0 => String::new(),
-        1 => format!("{INPUTS} (in 0); "),
+        1 => format!("{INPUT_CODES} (in 0); "),
         _ => {
-            let last = usize::from(INPUTS) + m - 1;
-            format!("{INPUTS} to {last} (in 0 to in {}); ", m - 1)
+            let last = usize::from(INPUT_CODES) + m - 1;
+            format!("{INPUT_CODES} to {last} (in 0 to in {}); ", m - 1)
         }
     };
-    let outputs = below(SLICE_OUTPUTS);
+    let outputs = below(usize::from(SLICE_OUTPUTS));
     let outputs = match n {
-        1 => format!("{OUTPUTS} + k for output k ({outputs}) of slice 0"),
+        1 => format!("{OUTPUT_CODES} + k for output k ({outputs}) of slice 0"),
         _ => format!(
-            "{OUTPUTS} + {SLICE_CODES}s + k for output k ({outputs}) of slice s ({})",
+            "{OUTPUT_CODES} + {SLICE_CODES}s + k for output k ({outputs}) of slice s ({})",
             below(n)
         ),
     };

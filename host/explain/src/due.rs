@@ -49,8 +49,7 @@ impl Kind {
 
     /// The bytes that such a record begins with.
     pub fn header(self) -> [u8; HEADER] {
-        let [low, high] = (self.body as u16).to_le_bytes();
-        [self.tag, low, high]
+        header(self.tag, self.body)
     }
 }
 
@@ -111,9 +110,4 @@ impl Due {
             Due::Size { .. } | Due::End { .. } => format!("the {} record", self.kind().name),
         }
     }
-}
-
-/// The bytes of a file of n slices.
-pub fn file_length(n: usize) -> usize {
-    Due::End { n }.end()
 }

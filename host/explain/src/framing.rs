@@ -5,7 +5,7 @@ use std::ops::Range;
 
 use model::layout::*;
 
-use crate::due::{file_length, Due, Kind};
+use crate::due::{Due, Kind};
 use crate::fault::Fault;
 use crate::words::{bytes, counted};
 

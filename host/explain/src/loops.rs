@@ -81,28 +81,34 @@ fn looped(graph: &[Vec<usize>]) -> Vec<Vec<usize>> {
         reads.iter().for_each(|&read| readers[read].push(reader));
     }
     let mut seen = vec![false; graph.len()];
-    let mut groups = vec![];
     // What is reached backwards from the signal left last depends on it; it depends on that too,
     // or it would have been left before.
-    for first in left(graph).into_iter().rev() {
-        if seen[first] {
-            continue;
-        }
-        let mut group = vec![];
-        let mut open = vec![first];
-        while let Some(signal) = open.pop() {
-            if !replace(&mut seen[signal], true) {
-                group.push(signal);
-                open.extend(&readers[signal]);
-            }
-        }
+    let mut group = |first: usize| {
+        let mut group = reached(&readers, first, &mut seen);
         group.sort();
-        if group.len() > 1 || graph[first].contains(&first) {
-            groups.push(group);
-        }
-    }
+        let is_looped = group.len() > 1 || group == [first] && graph[first].contains(&first);
+        is_looped.then_some(group)
+    };
+    let mut groups: Vec<Vec<usize>> = left(graph)
+        .into_iter()
+        .rev()
+        .filter_map(&mut group)
+        .collect();
     groups.sort();
     groups
+}
+
+/// The signals that are reached from one and weren't seen before, itself among them.
+fn reached(graph: &[Vec<usize>], first: usize, seen: &mut [bool]) -> Vec<usize> {
+    let mut reached = vec![];
+    let mut open = vec![first];
+    while let Some(signal) = open.pop() {
+        if !replace(&mut seen[signal], true) {
+            reached.push(signal);
+            open.extend(&graph[signal]);
+        }
+    }
+    reached
 }
 
 /// All signals, each after those that it reads and that were not entered before it.

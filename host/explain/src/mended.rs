@@ -62,7 +62,7 @@ fn mend_choices(rules: &Rules, body: &mut [u8]) {
 fn mend_drivers(rules: &Rules, body: &mut [u8], n: usize, m: usize) {
     for pin in 0..PIN_COUNT {
         if (rules.driver)(pin_code(body, pin), n, m).is_none() {
-            body[PINS + 2 * pin..][..2].fill(0);
+            body[pin_bytes(pin)].fill(0);
         }
     }
 }

@@ -6,7 +6,7 @@ use crate::cells::Netlist;
 use crate::text::range;
 
 /// The most clocks that can be asked for.
-const MOST_CLOCKS: usize = 1_000_000;
+pub const MOST_CLOCKS: usize = 1_000_000;
 
 /// What the test bench does: so many clocks, the first of them with these inputs, each a text of 0 and 1 with input 0 first. The last are held; before any
 /// are given, all are 0.

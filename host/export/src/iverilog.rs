@@ -3,15 +3,24 @@
 use std::io::Write;
 use std::path::{Path, PathBuf};
 use std::process::{Command, Output};
-use std::sync::Once;
+use std::sync::Mutex;
 
 use model::design::SIGNALS;
 
 /// Where Debian's yosys has its models.
 const CELLS: &str = "/usr/share/yosys/xilinx/cells_sim.v";
 
-/// Whether it was said that they are missing.
-static SAID: Once = Once::new();
+/// What tests were said to be skipped for.
+static SKIPPED: Mutex<Vec<String>> = Mutex::new(vec![]);
+
+/// Says once that tests are skipped, and for what, past the capture of test output, so that it is seen.
+pub fn say_skipped(missing: &str) {
+    let mut skipped = SKIPPED.lock().expect("no test fails while it says this");
+    if !skipped.iter().any(|said| said == missing) {
+        writeln!(std::io::stderr(), "\nskipped: {missing}").expect("standard error");
+        skipped.push(missing.to_string());
+    }
+}
 
 /// The models, where they and iverilog are there; else it says so. `CELLS` names other models, and then they have to be there.
 pub fn cells() -> Option<PathBuf> {
@@ -24,10 +33,7 @@ pub fn cells() -> Option<PathBuf> {
     }
     let missing = format!("iverilog or {} isn't installed", cells.display());
     assert!(!required, "{missing}");
-    SAID.call_once(|| {
-        // Written past the capture of test output, so that a skip is seen.
-        writeln!(std::io::stderr(), "\nskipped: {missing}").expect("standard error");
-    });
+    say_skipped(&missing);
     None
 }
 

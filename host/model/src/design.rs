@@ -80,6 +80,17 @@ pub enum Output {
 }
 
 impl Output {
+    /// The output that has this number in its slice.
+    pub fn numbered(k: u16) -> Option<Output> {
+        let letter = usize::from(k % 4);
+        match k {
+            0..=3 => Some(Output::O6(letter)),
+            4..=7 => Some(Output::Mux(letter)),
+            8..SLICE_OUTPUTS => Some(Output::Main(letter)),
+            _ => None,
+        }
+    }
+
     /// The signal that the output is.
     pub fn signal(self) -> Signal {
         match self {
@@ -92,25 +103,18 @@ impl Output {
 
 /// The driver of a code, if there is one in a column of n slices and m inputs.
 pub fn driver(code: u16, n: usize, m: usize) -> Option<Driver> {
-    let code = usize::from(code);
     match code {
         0 => Some(Driver::Constant(false)),
         1 => Some(Driver::Constant(true)),
-        256..=4095 if code - 256 < m => Some(Driver::Input(code - 256)),
-        4096.. => {
-            let slice = (code - 4096) / 16;
-            let output = output((code - 4096) % 16)?;
+        INPUT_CODES..OUTPUT_CODES => {
+            let input = usize::from(code - INPUT_CODES);
+            (input < m).then_some(Driver::Input(input))
+        }
+        OUTPUT_CODES.. => {
+            let slice = usize::from((code - OUTPUT_CODES) / SLICE_CODES);
+            let output = Output::numbered((code - OUTPUT_CODES) % SLICE_CODES)?;
             (slice < n).then_some(Driver::Output { slice, output })
         }
-        _ => None,
-    }
-}
-
-fn output(k: usize) -> Option<Output> {
-    match k {
-        0..=3 => Some(Output::O6(k)),
-        4..=7 => Some(Output::Mux(k - 4)),
-        8..=11 => Some(Output::Main(k - 8)),
         _ => None,
     }
 }

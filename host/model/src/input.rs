@@ -4,7 +4,7 @@ use std::ffi::OsStr;
 use std::fs::File;
 use std::io::{Read, Result};
 
-use crate::layout::{record_start, END_RECORD};
+use crate::layout::file_length;
 use crate::Rules;
 
 /// The file of a name, or standard input for `-` or none, as far as it decides.
@@ -18,7 +18,7 @@ pub fn read(name: Option<&OsStr>) -> Result<Vec<u8>> {
 /// At most one byte more than the longest file has: none after these changes the
 /// verdict, and input may be endless.
 pub fn deciding_bytes(input: impl Read) -> Result<Vec<u8>> {
-    let longest = record_start(*Rules::paper().n.end()) + END_RECORD;
+    let longest = file_length(*Rules::paper().n.end());
     let mut bytes = vec![];
     input.take(longest as u64 + 1).read_to_end(&mut bytes)?;
     Ok(bytes)

@@ -1,5 +1,7 @@
 //! Where everything stands in a file and in the body of a slice record.
 
+use std::ops::Range;
+
 pub const TAG_SIZE: u8 = 1;
 pub const TAG_SLICE: u8 = 2;
 pub const TAG_END: u8 = 3;
@@ -48,14 +50,35 @@ pub const CE: usize = 28;
 pub const SR: usize = 29;
 pub const WE: usize = 30;
 
+/// The pins of a table.
+pub const TABLE_PINS: usize = 6;
+
 /// Pin 1 to 6 of a letter's table.
 pub fn table_pin(letter: usize, pin: usize) -> usize {
-    6 * letter + pin - 1
+    TABLE_PINS * letter + pin - 1
 }
 
 /// A letter's bypass pin, AX to DX.
 pub fn bypass_pin(letter: usize) -> usize {
     24 + letter
+}
+
+/// The first codes of outside inputs and of outputs, how many codes a slice has,
+/// and how many of them are outputs.
+pub const INPUT_CODES: u16 = 256;
+pub const OUTPUT_CODES: u16 = 4096;
+pub const SLICE_CODES: u16 = 16;
+pub const SLICE_OUTPUTS: u16 = 12;
+
+/// The header of a record with a tag and a body of so many bytes.
+pub fn header(tag: u8, body: usize) -> [u8; HEADER] {
+    let [low, high] = (body as u16).to_le_bytes();
+    [tag, low, high]
+}
+
+/// The length of a file of n slices.
+pub fn file_length(n: usize) -> usize {
+    record_start(n) + END_RECORD
 }
 
 /// The offset of a slice record; with `number` = n, that of the end record.
@@ -68,16 +91,27 @@ pub fn two_bytes(bytes: &[u8]) -> u16 {
     u16::from(bytes[0]) + 256 * u16::from(bytes[1])
 }
 
+/// Where a table's contents stand in a slice body.
+pub fn contents_bytes(letter: usize) -> Range<usize> {
+    let at = CONTENTS + 8 * letter;
+    at..at + 8
+}
+
 /// A table's contents.
 pub fn contents(body: &[u8], letter: usize) -> u64 {
-    let at = CONTENTS + 8 * letter;
-    let low_first = body[at..at + 8].iter();
+    let low_first = body[contents_bytes(letter)].iter();
     low_first
         .rev()
         .fold(0, |word, &byte| word << 8 | u64::from(byte))
 }
 
+/// Where the code of a pin's driver stands in a slice body.
+pub fn pin_bytes(pin: usize) -> Range<usize> {
+    let at = PINS + 2 * pin;
+    at..at + 2
+}
+
 /// The code of a pin's driver.
 pub fn pin_code(body: &[u8], pin: usize) -> u16 {
-    two_bytes(&body[PINS + 2 * pin..])
+    two_bytes(&body[pin_bytes(pin)])
 }

@@ -26,7 +26,7 @@ pub fn write_record(rules: &Rules, body: &[u8], n: usize, m: usize, part: &mut [
 
 /// The record with this body.
 pub fn slice_record(body: &[u8]) -> Vec<u8> {
-    [&[TAG_SLICE, SLICE_BODY as u8, 0], body].concat()
+    [&header(TAG_SLICE, SLICE_BODY), body].concat()
 }
 
 /// n and m, then the rules of a record. The place is 0.

@@ -23,10 +23,10 @@ impl Column {
         let mut column = Column {
             file,
             size,
-            contents: vec![0; 4 * size.n],
+            contents: vec![0; size.tables()],
             flops: vec![0; size.n],
             inputs: vec![0; size.m],
-            values: vec![0; 32 * size.n],
+            values: vec![0; size.signals()],
         };
         column.power_up()?;
         column.settle()?;

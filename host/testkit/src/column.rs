@@ -48,11 +48,11 @@ impl Column {
     }
 
     pub fn drive(&mut self, slice: usize, pin: usize, code: u16) {
-        self.slices[slice][PINS + 2 * pin..][..2].copy_from_slice(&code.to_le_bytes());
+        self.slices[slice][pin_bytes(pin)].copy_from_slice(&code.to_le_bytes());
     }
 
     pub fn fill(&mut self, slice: usize, letter: usize, word: u64) {
-        self.slices[slice][CONTENTS + 8 * letter..][..8].copy_from_slice(&word.to_le_bytes());
+        self.slices[slice][contents_bytes(letter)].copy_from_slice(&word.to_le_bytes());
     }
 
     /// The file.

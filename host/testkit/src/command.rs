@@ -19,3 +19,10 @@ pub fn assert_fails(output: &Output, start: &str) {
     assert_eq!(String::from_utf8_lossy(&output.stdout), "", "{line}");
     assert_eq!(output.status.code(), Some(2), "{line}");
 }
+
+/// A command ended with a status, wrote these lines to standard error and nothing else.
+pub fn assert_says(output: &Output, status: i32, lines: &str) {
+    assert_eq!(String::from_utf8_lossy(&output.stderr), lines);
+    assert_eq!(String::from_utf8_lossy(&output.stdout), "");
+    assert_eq!(output.status.code(), Some(status));
+}

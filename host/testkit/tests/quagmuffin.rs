@@ -10,7 +10,7 @@ use std::process::{Child, Command, Output, Stdio};
 use std::thread::sleep;
 use std::time::{Duration, SystemTime};
 
-use testkit::command::{assert_fails, assert_writes};
+use testkit::command::{assert_fails, assert_says, assert_writes};
 use testkit::replica::Replica;
 
 /// `rt staticlib quagmuffin` that counts its runs and proves two crates.
@@ -41,14 +41,17 @@ exit 101
 ";
 
 /// Helps, or tells its folder, its words and its input and ends with the status
-/// that the first word says.
+/// that the second word says.
 const PROGRAM: &str = "#!/bin/sh
 [ \"$1\" != --help ] || exec echo helps
 echo \"in ${PWD##*/}\"
 printf '[%s]\\n' \"$@\"
 cat
-exit $1
+exit $2
 ";
+
+/// A command that ends with 0.
+const RUN: [&str; 2] = ["run", "0"];
 
 const CLI: &str = "\
 [package]
@@ -68,12 +71,12 @@ kit = { path = \"../kit\" }
 const LOW: &str = "[dependencies]\ncalls = { path = \"../calls\" }\n";
 
 const PROVING: &str = "\
-quagmuffin: proving the library for these sources; from nothing that takes five to six minutes
+quagmuffin: proving the library for these sources; from nothing that takes some minutes
 quagmuffin: proved 1 of 2: below (3 s)
 quagmuffin: proved 2 of 2: quagmuffin
 ";
 
-const BUILDING: &str = "quagmuffin: building the program; from nothing that takes half a minute\n";
+const BUILDING: &str = "quagmuffin: building the program; from nothing that takes a minute\n";
 
 /// A small repository beside a program, an `rt` and a `cargo`.
 fn replica(name: &str) -> Replica {
@@ -107,7 +110,7 @@ fn replica(name: &str) -> Replica {
 /// A copy with the program built.
 fn built(name: &str) -> Replica {
     let copy = replica(name);
-    assert_eq!(run(&copy, &["0"]).status.code(), Some(0));
+    assert_eq!(run(&copy, &RUN).status.code(), Some(0));
     copy
 }
 
@@ -144,13 +147,6 @@ fn install(copy: &Replica, versions: [&str; 3]) {
 
 const INSTALLED: [&str; 3] = ["clap-4.0.32", "clap_complete-4.0.7", "indicatif-0.17.3"];
 
-/// It failed, with these lines on standard error.
-fn assert_says(output: &Output, lines: &str) {
-    assert_eq!(String::from_utf8_lossy(&output.stderr), lines);
-    assert_eq!(String::from_utf8_lossy(&output.stdout), "");
-    assert_eq!(output.status.code(), Some(2));
-}
-
 /// The path of the log, as the command writes it.
 fn log(copy: &Replica) -> String {
     let path = copy.root().join("target/quagmuffin-build.log");
@@ -160,7 +156,7 @@ fn log(copy: &Replica) -> String {
 #[test]
 fn says_how_far_it_is() {
     let copy = replica("progress");
-    let output = run(&copy, &["0"]);
+    let output = run(&copy, &RUN);
     let said = String::from_utf8_lossy(&output.stderr);
     assert_eq!(said, format!("{PROVING}{BUILDING}"));
     let target = copy.root().join("target/host");
@@ -186,12 +182,12 @@ fn hands_on() {
         command.current_dir(copy.folder.join("here")).stdin(input);
         command.output().expect("the command")
     };
-    let first = run(&["1", "a  b"]);
-    assert_eq!(first.stdout, b"in here\n[1]\n[a  b]\nline\n");
+    let first = run(&["run", "1", "a  b"]);
+    assert_eq!(first.stdout, b"in here\n[run]\n[1]\n[a  b]\nline\n");
     assert_eq!(first.status.code(), Some(1));
-    let output = run(&["0", "", "--help", "*"]);
-    assert_writes(&output, 0, "in here\n[0]\n[]\n[--help]\n[*]\nline\n");
-    assert_writes(&run(&["2"]), 2, "in here\n[2]\nline\n");
+    let output = run(&["x", "0", "", "--help", "*"]);
+    assert_writes(&output, 0, "in here\n[x]\n[0]\n[]\n[--help]\n[*]\nline\n");
+    assert_writes(&run(&["run", "2"]), 2, "in here\n[run]\n[2]\nline\n");
     assert_writes(&run(&["--help"]), 0, "helps\n");
     assert_eq!(runs(&copy), (1, 1));
 }
@@ -224,7 +220,7 @@ fn built_again_when_sources_change() {
     ] {
         copy.write(&format!("root/{name}"), text);
         for _ in 0..2 {
-            assert_eq!(run(&copy, &["0"]).status.code(), Some(0));
+            assert_eq!(run(&copy, &RUN).status.code(), Some(0));
         }
         assert_eq!(runs(&copy), expected, "{name}");
     }
@@ -242,7 +238,7 @@ fn built_again_with_other_packages() {
         ("indicatif-0.17.4", 3),
     ] {
         install(&copy, [INSTALLED[0], INSTALLED[1], version]);
-        assert_eq!(run(&copy, &["0"]).status.code(), Some(0));
+        assert_eq!(run(&copy, &RUN).status.code(), Some(0));
         assert_eq!(runs(&copy), (1, builds), "{version}");
     }
 }
@@ -257,11 +253,11 @@ fn archives_of_others() {
     let touched = file.and_then(|file| file.set_modified(later));
     touched.expect("the archive");
     copy.write("root/host/cli/src/main.rs", "two");
-    run(&copy, &["0"]);
+    run(&copy, &RUN);
     assert_eq!(runs(&copy), (2, 2));
     fs::remove_file(&archive).expect("the archive");
     copy.write("root/host/cli/src/main.rs", "three");
-    run(&copy, &["0"]);
+    run(&copy, &RUN);
     assert_eq!(runs(&copy), (3, 3));
 }
 
@@ -271,7 +267,7 @@ fn archives_of_others() {
 fn without_rt_or_cargo() {
     let copy = built("without");
     let run = |tool| {
-        let mut command = script(&copy, "quagmuffin", &["0"]);
+        let mut command = script(&copy, "quagmuffin", &RUN);
         let output = command.env("PATH", copy.path_without(tool)).output();
         output.expect("the command")
     };
@@ -280,7 +276,7 @@ fn without_rt_or_cargo() {
         format!("{not_built}, and {tool}, which {does}, is not on the PATH\n")
     };
     for tool in ["rt", "cargo"] {
-        assert_writes(&run(tool), 0, "in quagmuffin without\n[0]\n");
+        assert_writes(&run(tool), 0, "in quagmuffin without\n[run]\n[0]\n");
     }
     copy.write("root/host/cli/src/main.rs", "two");
     assert_fails(&run("cargo"), &missing("cargo", "builds it"));
@@ -298,13 +294,30 @@ fn help_while_there_is_no_program() {
         let output = run(&copy, &[word]);
         let text = String::from_utf8_lossy(&output.stdout).into_owned();
         assert!(text.starts_with("usage: quagmuffin COMMAND "), "{text}");
-        let commands = "judge, explain, show, write, run, diff, verilog, completions\n";
+        let commands = "\nCommands: judge explain show write run diff verilog completions\n";
         assert!(text.contains(commands), "{text}");
         assert_writes(&output, 0, &text);
     }
+    let no_command = "quagmuffin: no command 'x'; --help says what there is\n";
+    assert_fails(&run(&copy, &["x"]), no_command);
     let no_command = "quagmuffin: no command is named; --help says what there is\n";
     assert_fails(&run(&copy, &[]), no_command);
     assert_eq!(runs(&copy), (0, 0));
+}
+
+/// A closed standard input is no empty one; it matters where it is read.
+#[test]
+fn closed_input() {
+    let copy = built("closed");
+    let run = |word: &str| {
+        let line = format!("exec bash root/quagmuffin run 0 {word} <&-");
+        let mut closed = Command::new("sh");
+        closed.args(["-c", &line]).current_dir(&copy.folder);
+        closed.env("DEBIAN_CRATES", copy.folder.join("registry"));
+        closed.output().expect("sh")
+    };
+    assert_fails(&run("-"), "quagmuffin: standard input: is closed\n");
+    assert_eq!(run("file").status.code(), Some(0));
 }
 
 /// Where the proof fails nothing is built, and the old program is not run.
@@ -323,7 +336,7 @@ fn failing_proof() {
          quagmuffin: rt staticlib quagmuffin failed, so there is no program; {log} says why\n"
     );
     for proofs in [2, 3] {
-        assert_says(&run(&copy, &["0"]), &lines);
+        assert_says(&run(&copy, &RUN), 2, &lines);
         assert_eq!(runs(&copy), (proofs, 1));
     }
 }
@@ -337,8 +350,8 @@ fn failing_build() {
     copy.write("root/crates/below/specs/Low.antt", "two");
     let log = log(&copy);
     let fails = format!("{BUILDING}quagmuffin: can't be built; {log} says why\n");
-    assert_says(&run(&copy, &["0"]), &format!("{PROVING}{fails}"));
-    assert_says(&run(&copy, &["0"]), &fails);
+    assert_says(&run(&copy, &RUN), 2, &format!("{PROVING}{fails}"));
+    assert_says(&run(&copy, &RUN), 2, &fails);
     assert_eq!(runs(&copy), (2, 3));
     let text = fs::read_to_string(log).expect("the log");
     assert_eq!(text, "error: clean\n");
@@ -355,7 +368,7 @@ fn build_without_a_program() {
     let why = format!(
         "quagmuffin: {target}/host/release/quagmuffin: can't be kept in {target}/quagmuffin\n"
     );
-    assert_says(&run(&copy, &["0"]), &format!("{BUILDING}{why}"));
+    assert_says(&run(&copy, &RUN), 2, &format!("{BUILDING}{why}"));
 }
 
 /// With neither packages nor a network it says which packages to install.
@@ -374,11 +387,11 @@ fn nothing_to_build_with() {
         let cargo = format!("#!/bin/sh\necho '{why}' >&2\nexit 101\n");
         copy.write("bin/cargo", &cargo);
         let lines = format!("{BUILDING}{install_them}");
-        assert_says(&run(&copy, &["0"]), &lines);
+        assert_says(&run(&copy, &RUN), 2, &lines);
         install(&copy, INSTALLED);
         let log = log(&copy);
         let lines = format!("{BUILDING}quagmuffin: can't be built; {log} says why\n");
-        assert_says(&run(&copy, &["0"]), &lines);
+        assert_says(&run(&copy, &RUN), 2, &lines);
     }
 }
 
@@ -390,15 +403,15 @@ fn sources_that_change_meanwhile() {
     copy.write("bin/rt", &proving);
     let changed = "quagmuffin: the sources changed while they were";
     let lines = format!("{PROVING}{changed} proved: run it again\n");
-    assert_says(&run(&copy, &["0"]), &lines);
+    assert_says(&run(&copy, &RUN), 2, &lines);
     assert_eq!(runs(&copy), (1, 0));
     let building = format!("{CARGO}echo two >> ../low/src/lib.rs\n");
     copy.write("bin/rt", RT);
     copy.write("bin/cargo", &building);
     let lines = format!("{PROVING}{BUILDING}{changed} built: run it again\n");
-    assert_says(&run(&copy, &["0"]), &lines);
+    assert_says(&run(&copy, &RUN), 2, &lines);
     copy.write("bin/cargo", CARGO);
-    assert_eq!(run(&copy, &["0"]).status.code(), Some(0));
+    assert_eq!(run(&copy, &RUN).status.code(), Some(0));
     assert_eq!(runs(&copy), (2, 2));
 }
 
@@ -412,28 +425,28 @@ fn sources_that_are_missing() {
     );
     for name in ["host/calls", "crates/below", "crates.txt"] {
         fs::rename(root.join(name), root.join("away")).expect("a source");
-        assert_fails(&run(&copy, &["0"]), &why);
+        assert_fails(&run(&copy, &RUN), &why);
         fs::rename(root.join("away"), root.join(name)).expect("a source");
     }
 }
 
-fn start(copy: &Replica, name: &str) -> Child {
-    let mut command = script(copy, name, &["0"]);
+fn start(copy: &Replica, name: &str, words: &[&str]) -> Child {
+    let mut command = script(copy, name, words);
     command.stdout(Stdio::piped()).stderr(Stdio::piped());
     command.spawn().expect("the command")
 }
 
 /// Starts `quagmuffin`, and another command while that one is proving. The proof ends
 /// once the other has said its first line, which is given with both.
-fn start_while_proving(copy: &Replica, other: &str) -> (String, [Child; 2]) {
+fn start_while_proving(copy: &Replica, other: &str, words: &[&str]) -> (String, [Child; 2]) {
     let wait = "until [ -e ../go ]; do sleep 0.02; done; mkdir";
     copy.write("bin/rt", &RT.replace("mkdir", wait));
-    let mut first = start(copy, "quagmuffin");
+    let mut first = start(copy, "quagmuffin", &RUN);
     while copy.count("proofs") == 0 {
         assert!(first.try_wait().expect("the command").is_none());
         sleep(Duration::from_millis(10));
     }
-    let mut second = start(copy, other);
+    let mut second = start(copy, other, words);
     let mut line = String::new();
     let mut said = BufReader::new(second.stderr.take().expect("a pipe"));
     let read = said.read_line(&mut line);
@@ -447,12 +460,12 @@ fn start_while_proving(copy: &Replica, other: &str) -> (String, [Child; 2]) {
 #[test]
 fn two_at_once() {
     let copy = replica("twice");
-    let (line, children) = start_while_proving(&copy, "quagmuffin");
+    let (line, children) = start_while_proving(&copy, "quagmuffin", &RUN);
     let waiting = "quagmuffin: waiting for another run, which is proving or building\n";
     assert_eq!(line, waiting);
     for child in children {
         let output = child.wait_with_output().expect("the command");
-        assert_eq!(output.stdout, b"in quagmuffin twice\n[0]\n");
+        assert_eq!(output.stdout, b"in quagmuffin twice\n[run]\n[0]\n");
         assert_eq!(output.status.code(), Some(0));
     }
     assert_eq!(runs(&copy), (1, 1));
@@ -464,9 +477,9 @@ fn what_runs_on_holds_no_lock() {
     let copy = replica("runs on");
     let server = "sleep 3 > /dev/null 2>&1 < /dev/null &";
     copy.write("bin/cargo", &format!("{CARGO}{server}\n"));
-    assert_eq!(run(&copy, &["0"]).status.code(), Some(0));
+    assert_eq!(run(&copy, &RUN).status.code(), Some(0));
     copy.write("root/host/cli/src/main.rs", "two");
-    let output = run(&copy, &["0"]);
+    let output = run(&copy, &RUN);
     assert_eq!(String::from_utf8_lossy(&output.stderr), BUILDING);
 }
 
@@ -477,9 +490,9 @@ fn judge_waits_too() {
     let layers = "below:\nquagmuffin: below\njudge: below\n";
     copy.write("root/crates.txt", layers);
     copy.write("root/crates/judge/src/main.rt", "one");
-    copy.write("0", "");
+    copy.write("file", "");
     copy.copy(&["judge"]);
-    let (line, children) = start_while_proving(&copy, "judge");
+    let (line, children) = start_while_proving(&copy, "judge", &["file"]);
     let waiting = "judge: waiting for another run, which is proving or building\n";
     assert_eq!(line, waiting);
     let [first, second] = children.map(|child| child.wait_with_output().expect("the command"));

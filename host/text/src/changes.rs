@@ -1,14 +1,14 @@
 //! What differs between two designs, field by field.
 
-use crate::fields::{fields, kind, Field};
+use crate::fields::{fields, Field};
 use crate::records::Records;
-use crate::show::show_slice;
+use crate::show::{first_line, show_slice, sizes};
 
 /// The lines that differ, those of `a` after a minus, those of `b` after a plus, under the slice that they are of. Empty where the files are the same.
 pub fn changes(a: &Records, b: &Records) -> String {
     let fields = fields();
-    let mut text = changed(format!("slices {}", a.n), format!("slices {}", b.n));
-    text += &changed(format!("inputs {}", a.m), format!("inputs {}", b.m));
+    let sizes = sizes(a).into_iter().zip(sizes(b));
+    let mut text: String = sizes.map(|(a, b)| changed(a, b)).collect();
     for number in 0..a.slices.len().max(b.slices.len()) {
         text += &match (a.slices.get(number), b.slices.get(number)) {
             (Some(a), Some(b)) => slice_changes(&fields, number, a, b),
@@ -30,11 +30,11 @@ fn slice_changes(fields: &[Field], number: usize, a: &[u8], b: &[u8]) -> String 
             )
         });
     let lines: String = lines.collect();
-    let first = |body| format!("slice {number} {}", kind().value(body));
-    match (first(a) == first(b), lines.is_empty()) {
+    let (first_a, first_b) = (first_line(number, a), first_line(number, b));
+    match (first_a == first_b, lines.is_empty()) {
         (true, true) => String::new(),
-        (true, false) => format!("  {}\n{lines}", first(a)),
-        (false, _) => changed(first(a), first(b)) + &lines,
+        (true, false) => format!("  {first_a}\n{lines}"),
+        (false, _) => changed(first_a, first_b) + &lines,
     }
 }
 

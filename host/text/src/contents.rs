@@ -4,9 +4,8 @@ use model::layout::*;
 
 use crate::lines::{Line, Mistake};
 
-/// The pins of a table, and for each the word that is 1 where the pin is.
-const PINS_OF_TABLE: usize = 6;
-const PIN_WORDS: [u64; PINS_OF_TABLE] = [
+/// For each pin of a table the word that is 1 where the pin is.
+const PIN_WORDS: [u64; TABLE_PINS] = [
     0xAAAA_AAAA_AAAA_AAAA,
     0xCCCC_CCCC_CCCC_CCCC,
     0xF0F0_F0F0_F0F0_F0F0,
@@ -54,7 +53,7 @@ fn expression(line: &mut Line, letter: usize) -> Result<u64, Mistake> {
 
 /// `a ? b : c`, or what binds more tightly.
 fn selected(line: &mut Line, letter: usize) -> Result<u64, Mistake> {
-    let select = joined(line, letter, &OPERATORS)?;
+    let select = joined(line, letter, &Operator::ALL)?;
     if !line.take("?") {
         return Ok(select);
     }
@@ -66,24 +65,42 @@ fn selected(line: &mut Line, letter: usize) -> Result<u64, Mistake> {
     Ok(select & one | !select & zero)
 }
 
-/// An operator: its symbol, and what it makes of two words.
-type Operator = (&'static str, fn(u64, u64) -> u64);
+#[derive(Clone, Copy, Debug, PartialEq)]
+enum Operator {
+    Or,
+    Xor,
+    And,
+}
 
-/// The one that binds most loosely first.
-const OPERATORS: [Operator; 3] = [
-    ("|", |a, b| a | b),
-    ("^", |a, b| a ^ b),
-    ("&", |a, b| a & b),
-];
+impl Operator {
+    /// The one that binds most loosely first.
+    const ALL: [Operator; 3] = [Operator::Or, Operator::Xor, Operator::And];
+
+    fn symbol(self) -> &'static str {
+        match self {
+            Operator::Or => "|",
+            Operator::Xor => "^",
+            Operator::And => "&",
+        }
+    }
+
+    fn apply(self, a: u64, b: u64) -> u64 {
+        match self {
+            Operator::Or => a | b,
+            Operator::Xor => a ^ b,
+            Operator::And => a & b,
+        }
+    }
+}
 
 /// Operands joined by the first of these operators, each of them joined by the others.
 fn joined(line: &mut Line, letter: usize, operators: &[Operator]) -> Result<u64, Mistake> {
-    let Some(((symbol, apply), others)) = operators.split_first() else {
+    let Some((operator, others)) = operators.split_first() else {
         return operand(line, letter);
     };
     let mut word = joined(line, letter, others)?;
-    while line.take(symbol) {
-        word = apply(word, joined(line, letter, others)?);
+    while line.take(operator.symbol()) {
+        word = operator.apply(word, joined(line, letter, others)?);
     }
     Ok(word)
 }
@@ -105,7 +122,7 @@ fn positive(line: &mut Line, letter: usize) -> Result<u64, Mistake> {
             false => Err(line.mistake("a `)` is due")),
         };
     }
-    let pins = (0..PINS_OF_TABLE).map(|i| (pin_name(letter, i), PIN_WORDS[i]));
+    let pins = (0..TABLE_PINS).map(|i| (pin_name(letter, i), PIN_WORDS[i]));
     let constants = [("0", 0), ("1", u64::MAX)];
     let mut operands = pins.chain(constants);
     let found = operands.find(|(name, _)| line.peek() == Some(name));
@@ -127,8 +144,8 @@ enum Expression {
     Constant(bool),
     Pin(usize),
     Not(usize),
-    /// Both sides of an operator, by its place in `OPERATORS`.
-    Joined(usize, Box<(Expression, Expression)>),
+    Joined(Operator, Box<(Expression, Expression)>),
+    /// By the pin that selects, the side for 1 first.
     Selected(usize, Box<(Expression, Expression)>),
 }
 
@@ -139,36 +156,44 @@ impl Expression {
             Expression::Pin(i) => pin_name(letter, *i).to_string(),
             Expression::Not(i) => format!("!{}", pin_name(letter, *i)),
             Expression::Joined(operator, sides) => {
-                let (left, right) = (
-                    sides.0.side(letter, *operator),
-                    sides.1.side(letter, *operator),
-                );
-                format!("{left} {} {right}", OPERATORS[*operator].0)
+                let side = |side: &Expression| side.bracketed(letter, side.is_apart(*operator));
+                format!(
+                    "{} {} {}",
+                    side(&sides.0),
+                    operator.symbol(),
+                    side(&sides.1)
+                )
             }
             Expression::Selected(i, sides) => {
-                let (one, zero) = (sides.0.bracketed(letter), sides.1.bracketed(letter));
-                format!("{} ? {one} : {zero}", pin_name(letter, *i))
+                let side = |side: &Expression| side.bracketed(letter, side.selects());
+                format!(
+                    "{} ? {} : {}",
+                    pin_name(letter, *i),
+                    side(&sides.0),
+                    side(&sides.1)
+                )
             }
         }
     }
 
-    /// As a side of an operator: what is joined by another one stands in brackets, but for `&` beside `|`, which everybody reads.
-    fn side(&self, letter: usize, operator: usize) -> String {
-        let text = self.text(letter);
-        match self {
-            Expression::Joined(own, _) if *own != operator && (operator, *own) != (0, 2) => {
-                format!("({text})")
-            }
-            Expression::Selected(..) => format!("({text})"),
-            _ => text,
+    fn bracketed(&self, letter: usize, brackets: bool) -> String {
+        match brackets {
+            true => format!("({})", self.text(letter)),
+            false => self.text(letter),
         }
     }
 
-    /// As a side of a multiplexer: another one stands in brackets.
-    fn bracketed(&self, letter: usize) -> String {
+    fn selects(&self) -> bool {
+        matches!(self, Expression::Selected(..))
+    }
+
+    /// Whether it stands in brackets beside an operator: what is joined by another one does, but for `&` beside `|`, which everybody reads.
+    fn is_apart(&self, operator: Operator) -> bool {
         match self {
-            Expression::Selected(..) => format!("({})", self.text(letter)),
-            _ => self.text(letter),
+            Expression::Joined(own, _) => {
+                *own != operator && (operator, *own) != (Operator::Or, Operator::And)
+            }
+            _ => self.selects(),
         }
     }
 
@@ -198,74 +223,92 @@ fn held(word: u64, i: usize, bit: bool) -> u64 {
     }
 }
 
+/// A set of pins, a bit for each.
+type Pins = usize;
+
+fn pins_of(set: Pins) -> impl DoubleEndedIterator<Item = usize> {
+    (0..TABLE_PINS).filter(move |i| set >> i & 1 == 1)
+}
+
 /// An expression for a word, if it falls apart into operators over disjoint pins and at most so many multiplexers in each other.
 fn found(word: u64, muxes: usize) -> Option<Expression> {
-    let pins: Vec<usize> = (0..PINS_OF_TABLE)
-        .filter(|&i| held(word, i, false) != held(word, i, true))
-        .collect();
+    let reads = |&i: &usize| held(word, i, false) != held(word, i, true);
+    let pins: Vec<usize> = (0..TABLE_PINS).filter(reads).collect();
     match pins[..] {
         [] => Some(Expression::Constant(word != 0)),
         [i] if word == PIN_WORDS[i] => Some(Expression::Pin(i)),
         [i] => Some(Expression::Not(i)),
-        _ => split(word, &pins, muxes).or_else(|| {
-            let muxes = muxes.checked_sub(1)?;
-            let selections = pins.iter().rev().filter_map(|&i| selection(word, i, muxes));
-            selections.min_by_key(Expression::size)
-        }),
+        _ => {
+            let set = pins.iter().map(|i| 1 << i).sum();
+            split(word, set, muxes).or_else(|| selection(word, set, muxes.checked_sub(1)?))
+        }
     }
 }
 
-/// By a multiplexer with this pin as its select.
-fn selection(word: u64, i: usize, muxes: usize) -> Option<Expression> {
-    let one = found(held(word, i, true), muxes)?;
-    let zero = found(held(word, i, false), muxes)?;
-    Some(Expression::Selected(i, Box::new((one, zero))))
+/// By a multiplexer, with the pin as its select that leaves least to read.
+fn selection(word: u64, set: Pins, muxes: usize) -> Option<Expression> {
+    let by = |i: usize| {
+        let one = found(held(word, i, true), muxes)?;
+        let zero = found(held(word, i, false), muxes)?;
+        Some(Expression::Selected(i, Box::new((one, zero))))
+    };
+    pins_of(set)
+        .rev()
+        .filter_map(by)
+        .min_by_key(Expression::size)
 }
 
 /// By an operator whose sides read disjoint sets of the pins. The first pin is on the left side.
-fn split(word: u64, pins: &[usize], muxes: usize) -> Option<Expression> {
-    let (first, others) = pins.split_first()?;
-    (0..(1 << others.len()) - 1).find_map(|chosen: usize| {
-        let is_left = |place: &usize| chosen >> place & 1 == 1;
-        let (left, right): (Vec<usize>, Vec<usize>) = (0..others.len()).partition(is_left);
-        let left: Vec<usize> = left.iter().map(|&x| others[x]).chain([*first]).collect();
-        let right: Vec<usize> = right.iter().map(|&x| others[x]).collect();
-        (0..OPERATORS.len()).find_map(|operator| {
-            let (a, b) = sides(word, operator, &left, &right);
-            let joins = OPERATORS[operator].1(a, b) == word;
-            let both = joins.then(|| Some((found(a, muxes)?, found(b, muxes)?)));
-            Some(Expression::Joined(operator, Box::new(both??)))
-        })
-    })
+fn split(word: u64, set: Pins, muxes: usize) -> Option<Expression> {
+    let first = 1 << set.trailing_zeros();
+    let lefts = (0..set).filter(|left| left & !set == 0 && left & first != 0);
+    let ways = lefts.flat_map(|left| Operator::ALL.map(|operator| (left, operator)));
+    let mut joined = ways.filter_map(|(left, operator)| {
+        let (a, b) = sides(word, operator, left, set & !left);
+        if operator.apply(a, b) != word {
+            return None;
+        }
+        let sides = (found(a, muxes)?, found(b, muxes)?);
+        Some(Expression::Joined(operator, Box::new(sides)))
+    });
+    joined.next()
 }
 
 /// The words that an operator would have to join.
-fn sides(word: u64, operator: usize, left: &[usize], right: &[usize]) -> (u64, u64) {
-    let without = |word: u64, pins: &[usize]| {
-        pins.iter().fold(word, |word, &i| {
+fn sides(word: u64, operator: Operator, left: Pins, right: Pins) -> (u64, u64) {
+    let without = |word: u64, set: Pins| {
+        pins_of(set).fold(word, |word, i| {
             let (zero, one) = (held(word, i, false), held(word, i, true));
-            match OPERATORS[operator].0 {
-                "|" => zero & one,
-                "&" => zero | one,
-                _ => zero,
+            match operator {
+                Operator::Or => zero & one,
+                Operator::And => zero | one,
+                Operator::Xor => zero,
             }
         })
     };
     let (a, b) = (without(word, right), without(word, left));
-    match OPERATORS[operator].0 {
+    match operator {
         // Where all pins are 0 the word has its lowest bit, and only one side may have it.
-        "^" => (a, b ^ without(a, left)),
-        _ => (a, b),
+        Operator::Xor => (a, b ^ without(a, left)),
+        Operator::Or | Operator::And => (a, b),
     }
 }
 
 #[cfg(test)]
 mod tests {
     use super::*;
+    use testkit::prng::Prng;
 
     fn word(text: &str) -> u64 {
-        let mut line = Line::new(1, text);
+        let mut line = Line::new(1, text).expect("a line");
         parse(&mut line, A).expect("contents")
+    }
+
+    /// What is shown of a word in table A.
+    fn shown(word: u64) -> String {
+        let mut body = [0; SLICE_BODY];
+        body[contents_bytes(A)].copy_from_slice(&word.to_le_bytes());
+        text(&body, A)
     }
 
     #[test]
@@ -307,30 +350,26 @@ mod tests {
             "A1 ? A2 | A3 : A2 & A3",
             "A1 & A2 & A3 & A4 & A5 & A6",
         ] {
-            let mut body = [0; SLICE_BODY];
-            body[CONTENTS..CONTENTS + 8].copy_from_slice(&word(text).to_le_bytes());
-            let shown = super::text(&body, A);
+            let shown = shown(word(text));
             assert_eq!(word(&shown), word(text), "{text} as {shown}");
             assert!(shown.len() <= text.len(), "{text} as {shown}");
         }
     }
 
-    /// Whatever the word, what is shown of it gives it again.
+    /// Whatever the word, what is shown of it gives it again. Of few pins many have an expression, of six few.
     #[test]
     fn shown_words_are_read_back() {
-        let mut random = 1u64;
+        let mut rng = Prng::new(1);
+        let mut expressions = 0;
         for _ in 0..20_000 {
-            random = random
-                .wrapping_mul(6364136223846793005)
-                .wrapping_add(1442695040888963407);
-            // Of few pins, so that many have an expression.
-            let pins = [random >> 20, random >> 30, random >> 40].map(|x| x as usize % 6);
-            let shown_of = pins.iter().fold(random ^ random >> 32, |word, &i| {
-                held(word, i, random >> 60 & 1 == 1)
-            });
-            let mut body = [0; SLICE_BODY];
-            body[CONTENTS..CONTENTS + 8].copy_from_slice(&shown_of.to_le_bytes());
-            assert_eq!(word(&super::text(&body, A)), shown_of);
+            let held_pins = [(); 3].map(|()| rng.below(TABLE_PINS));
+            let hold = |word, &i: &usize| held(word, i, true);
+            let random = held_pins.iter().fold(rng.number(), hold);
+            let shown = shown(random);
+            assert_eq!(word(&shown), random, "{shown}");
+            expressions += usize::from(!shown.starts_with("0x"));
         }
+        println!("{expressions} expressions");
+        assert!((5_000..19_000).contains(&expressions));
     }
 }

@@ -59,16 +59,15 @@ fn of_letter(letter: usize) -> Vec<Field> {
     let of = |words: &str, at: usize, names: &[&str]| {
         choice(&words.replace('_', name), at + letter, names)
     };
-    let contents = CONTENTS + 8 * letter;
     let mut fields = vec![
         of("_ mode", MODE, &["logic", "memory", "shift"]),
         Field {
             words: format!("{name} ="),
-            bytes: contents..contents + 8,
+            bytes: contents_bytes(letter),
             kind: Kind::Contents(letter),
         },
     ];
-    fields.extend((1..=6).map(|i| pin(table_pin(letter, i))));
+    fields.extend((1..=TABLE_PINS).map(|i| pin(table_pin(letter, i))));
     fields.push(pin(bypass_pin(letter)));
     fields.extend([
         of("_ data", SHIFT_DATA, &[bypass, "cascade"]),
@@ -90,10 +89,9 @@ fn choice(words: &str, at: usize, names: &[&str]) -> Field {
 }
 
 fn pin(pin: usize) -> Field {
-    let at = PINS + 2 * pin;
     Field {
         words: format!("{} =", PIN_NAMES[pin]),
-        bytes: at..at + 2,
+        bytes: pin_bytes(pin),
         kind: Kind::Driver,
     }
 }

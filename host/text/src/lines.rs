@@ -36,19 +36,19 @@ impl Mistake {
             true => (self.column - 1).saturating_sub(SHOWN / 2),
             false => 0,
         };
-        let line = plain(line.chars().skip(left_out).take(SHOWN));
+        let line: String = line.chars().skip(left_out).take(SHOWN).collect();
+        let line = plain(&line);
         let before = self.column - 1 - left_out;
-        let mark = " ".repeat(before) + &"^".repeat(self.width.min(SHOWN - before));
+        let mark = " ".repeat(before) + &"^".repeat(self.width.min(SHOWN - before).max(1));
         let (number, column, message) = (self.line, self.column, &self.message);
         let margin = " ".repeat(number.to_string().len());
         format!("{name}:{number}:{column}: {message}\n  {number} | {line}\n  {margin} | {mark}")
     }
 }
 
-/// Characters without those that move the cursor.
-fn plain(text: impl Iterator<Item = char>) -> String {
-    let plain = |x: char| if x.is_control() { ' ' } else { x };
-    text.map(plain).collect()
+/// A text without characters that move the cursor.
+pub fn plain(text: &str) -> String {
+    text.replace(char::is_control, " ")
 }
 
 /// A word or a symbol, with the column where it begins.
@@ -61,9 +61,22 @@ struct Token<'a> {
 /// Expressions may stand in each other up to this depth.
 const DEEPEST: usize = 32;
 
+/// A line has at most so many characters.
+const LONGEST: usize = 4096;
+
+/// The lines of a text that say something, in their order.
+pub fn lines(text: &str) -> impl Iterator<Item = Result<Line<'_>, Mistake>> {
+    let text = text.trim_start_matches('\u{feff}');
+    let line = |(number, text)| Line::new(number, text);
+    let says = |line: &Result<Line, Mistake>| !line.as_ref().is_ok_and(|x| x.tokens.is_empty());
+    (1..).zip(text.lines()).map(line).filter(says)
+}
+
 /// A line that is read from the left.
 pub struct Line<'a> {
     pub number: usize,
+    /// The line without its comment.
+    pub text: &'a str,
     tokens: Vec<Token<'a>>,
     /// How many of them were read.
     read: usize,
@@ -76,35 +89,45 @@ fn is_word(x: char) -> bool {
     x.is_ascii_alphanumeric() || matches!(x, '_' | '.' | '-')
 }
 
-impl<'a> Line<'a> {
-    /// The words and symbols of a line; a comment begins with `#`.
-    pub fn new(number: usize, text: &'a str) -> Line<'a> {
-        let text = text.split('#').next().unwrap_or("");
-        let mut tokens = vec![];
-        let mut rest = text.char_indices().enumerate().peekable();
-        while let Some((place, (start, first))) = rest.next() {
-            if first.is_whitespace() {
-                continue;
-            }
-            let mut end = start + first.len_utf8();
-            while let Some((_, (at, _))) = rest.next_if(|&(_, (_, x))| is_word(first) && is_word(x))
-            {
-                end = at + 1;
-            }
-            let text = &text[start..end];
-            let column = place + 1;
+/// The words and symbols of a text.
+fn tokens(text: &str) -> Vec<Token<'_>> {
+    let mut tokens = vec![];
+    let mut rest = text.char_indices().enumerate().peekable();
+    while let Some((place, (start, first))) = rest.next() {
+        let mut end = start + first.len_utf8();
+        while let Some((_, (at, _))) = rest.next_if(|&(_, (_, x))| is_word(first) && is_word(x)) {
+            end = at + 1;
+        }
+        if !first.is_whitespace() {
+            let (text, column) = (&text[start..end], place + 1);
             tokens.push(Token { text, column });
         }
-        let end = tokens
-            .last()
-            .map_or(1, |last| last.column + last.text.chars().count());
-        Line {
+    }
+    tokens
+}
+
+impl<'a> Line<'a> {
+    /// The words and symbols of a line; a comment begins with `#`.
+    pub fn new(number: usize, line: &'a str) -> Result<Line<'a>, Mistake> {
+        let text = line.split('#').next().unwrap_or("");
+        if text.chars().nth(LONGEST).is_some() {
+            return Err(Mistake {
+                line: number,
+                column: LONGEST + 1,
+                width: 1,
+                message: format!("a line has at most {LONGEST} characters"),
+            });
+        }
+        let tokens = tokens(text);
+        let end = |last: &Token| last.column + last.text.chars().count();
+        Ok(Line {
             number,
+            text: text.trim(),
+            end: tokens.last().map_or(1, end),
             tokens,
             read: 0,
-            end,
             depth: 0,
-        }
+        })
     }
 
     /// The next word or symbol.
@@ -136,7 +159,8 @@ impl<'a> Line<'a> {
     pub fn mistake(&self, message: &str) -> Mistake {
         let (column, width, found) = match self.tokens.get(self.read) {
             Some(token) => {
-                let found = plain(token.text.chars().take(SHOWN / 4));
+                let found: String = token.text.chars().take(SHOWN / 4).collect();
+                let found = plain(&found);
                 (
                     token.column,
                     token.text.chars().count(),

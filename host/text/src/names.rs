@@ -1,7 +1,11 @@
 //! Names of what a pin can read and of all signals: `in 3`, `s3.B.O6`, `s3.BQ`.
 
-use model::design::{Driver, Signal, SIGNALS};
-use model::layout::{LETTERS, LETTER_NAMES};
+use model::design::{Driver, Output, Signal, SIGNALS};
+use model::layout::*;
+
+/// The last input and the last slice that a driver's code can name.
+pub const LAST_INPUT: usize = (OUTPUT_CODES - INPUT_CODES - 1) as usize;
+const LAST_SLICE: usize = ((u16::MAX - OUTPUT_CODES) / SLICE_CODES) as usize;
 
 /// Something that has a bit: an outside input, or a signal by its number in the column.
 #[derive(Clone, Copy, Debug, PartialEq, Eq)]
@@ -24,23 +28,29 @@ pub fn signal(number: usize) -> String {
     format!("s{}.{signal}", number / SIGNALS)
 }
 
-/// The number of a named signal, of any slice number.
+/// The number of a named signal, whether the column has its slice or not.
 pub fn signal_named(name: &str) -> Option<usize> {
     let (slice, name) = name.strip_prefix('s')?.split_once('.')?;
-    let slice = number(slice)?;
+    let slice = number(slice).filter(|&slice| slice <= LAST_SLICE)?;
     let k = (0..SIGNALS).find(|&k| Signal::numbered(k).to_string() == name)?;
     Some(SIGNALS * slice + k)
+}
+
+/// The number of a named table, `s0.A`: that of its word in the contents.
+pub fn table_named(name: &str) -> Option<usize> {
+    let signal = signal_named(&format!("{name}.O6"))?;
+    Some(LETTERS.len() * (signal / SIGNALS) + signal % SIGNALS)
+}
+
+/// The number of an input written as `in3`.
+fn input_named(name: &str) -> Option<usize> {
+    number(name.strip_prefix("in")?).filter(|&input| input <= LAST_INPUT)
 }
 
 /// The wire of a name: `in3`, `s0.AQ`.
 pub fn wire_named(name: &str) -> Option<Wire> {
     let input = input_named(name).map(Wire::Input);
     input.or(signal_named(name).map(Wire::Signal))
-}
-
-/// The number of an input written as `in3`.
-pub fn input_named(name: &str) -> Option<usize> {
-    number(name.strip_prefix("in")?)
 }
 
 /// A decimal number of at most seven digits, written in the one way that there is.
@@ -50,16 +60,11 @@ pub fn number(digits: &str) -> Option<usize> {
     digits.parse().ok().filter(|_| is_number && is_short)
 }
 
-/// The first codes of outside inputs and of outputs, and how many codes a slice has.
-pub const INPUTS: u16 = 256;
-pub const OUTPUTS: u16 = 4096;
-pub const SLICE_CODES: u16 = 16;
-
 /// A driver by its code. Inputs and slices that the column doesn't have are named too; a code that stands for nothing is written as a number.
 pub fn driver(code: u16) -> String {
     match code {
         0 | 1 => code.to_string(),
-        INPUTS..OUTPUTS => format!("in {}", code - INPUTS),
+        INPUT_CODES..OUTPUT_CODES => format!("in {}", code - INPUT_CODES),
         _ => match wire_of(code) {
             Some(Wire::Signal(number)) => signal(number),
             _ => format!("code {code}"),
@@ -79,20 +84,12 @@ pub fn wire_of(code: u16) -> Option<Wire> {
 /// The code of a wire as a driver, where a pin can be driven by it.
 pub fn code_of(wire: Wire) -> Option<u16> {
     match wire {
-        Wire::Input(input) => {
-            let code = u16::try_from(input).ok()?.checked_add(INPUTS)?;
-            (code < OUTPUTS).then_some(code)
-        }
+        Wire::Input(input) => Some(INPUT_CODES + input as u16),
         Wire::Signal(number) => {
-            let output = match Signal::numbered(number % SIGNALS) {
-                Signal::O6(letter) => letter,
-                Signal::Mux(letter) => 4 + letter,
-                Signal::Main(letter) => 8 + letter,
-                _ => return None,
-            };
-            let slice = u16::try_from(number / SIGNALS).ok()?;
-            let first = slice.checked_mul(SLICE_CODES)?.checked_add(OUTPUTS)?;
-            first.checked_add(output as u16)
+            let signal = Signal::numbered(number % SIGNALS);
+            let is_signal = |output: Output| output.signal() == signal;
+            let k = (0..SLICE_OUTPUTS).find(|&k| Output::numbered(k).is_some_and(is_signal))?;
+            Some(OUTPUT_CODES + SLICE_CODES * (number / SIGNALS) as u16 + k)
         }
     }
 }
@@ -142,17 +139,14 @@ mod tests {
             assert_eq!(wire_of(code).and_then(code_of), wire_of(code).map(|_| code));
         }
         for name in [
-            "s0",
-            "s.AQ",
-            "s0.aq",
-            "sx.AQ",
-            "s00.AQ",
-            "s+1.AQ",
-            "s10000000.AQ",
-            "AQ",
-            "s0.A",
+            "s0", "s.AQ", "s0.aq", "sx.AQ", "s00.AQ", "s+1.AQ", "s3840.AQ", "AQ", "s0.A",
         ] {
             assert_eq!(signal_named(name), None, "{name}");
         }
+        for name in ["in3840", "in03", "in", "in-1", "xin3", "in12345678"] {
+            assert_eq!(wire_named(name), None, "{name}");
+        }
+        assert_eq!(wire_named("in3839"), Some(Wire::Input(3839)));
+        assert_eq!((table_named("s5.C"), table_named("s5.E")), (Some(22), None));
     }
 }

@@ -6,7 +6,7 @@ use model::layout::SLICE_BODY;
 
 use crate::contents;
 use crate::fields::{fields, kind, Field, Kind, NONE};
-use crate::lines::{Line, Mistake};
+use crate::lines::{lines, Line, Mistake};
 use crate::names::{self, Wire};
 use crate::records::Records;
 
@@ -31,8 +31,8 @@ pub struct Parsed {
 /// The most wires that a name can stand for.
 const MOST_WIRES: usize = 64;
 
-/// Words that are no names of wires.
-const KEPT: [&str; 4] = ["in", "code", "inputs", "signed"];
+/// Words that are no names: they stand for something else in a text, in inputs or in what a run writes.
+const KEPT: [&str; 6] = ["in", "code", "inputs", "signed", "clock", "clk"];
 
 /// Reads a text.
 pub fn parse(text: &str) -> Result<Parsed, Mistake> {
@@ -44,12 +44,10 @@ pub fn parse(text: &str) -> Result<Parsed, Mistake> {
         seen: HashMap::new(),
         names: vec![],
     };
-    for (number, line) in (1..).zip(text.trim_start_matches('\u{feff}').lines()) {
-        let mut line = Line::new(number, line);
-        if line.peek().is_some() {
-            reader.statement(&mut line)?;
-            line.ended()?;
-        }
+    for line in lines(text) {
+        let mut line = line?;
+        reader.statement(&mut line)?;
+        line.ended()?;
     }
     let [Some(n), m] = reader.size else {
         return Err(Mistake::of_all(
@@ -113,8 +111,12 @@ impl Reader {
 
     /// `slice 3 SLICEM`.
     fn slice(&mut self, line: &mut Line) -> Result<(), Mistake> {
-        let Some(last) = self.slices.len().checked_sub(1) else {
-            return Err(line.mistake("a line such as `slices 2` has to stand before the slices"));
+        let last = match self.size[0] {
+            None => {
+                return Err(line.mistake("a line such as `slices 2` has to stand before the slices"))
+            }
+            Some(0) => return Err(line.mistake("the column has no slices, as `slices 0` says")),
+            Some(n) => usize::from(n) - 1,
         };
         line.skip();
         self.once(line, format!("slice {}", line.peek().unwrap_or_default()))?;
@@ -131,7 +133,8 @@ impl Reader {
         line.skip();
         let word = line.peek().unwrap_or_default();
         if !is_name(word) {
-            return Err(line.mistake("a name is a word of small letters, digits and _ that begins with a letter, and not `in`, `in3`, `code`, `inputs` or `signed`"));
+            let kept = KEPT.join(", ");
+            return Err(line.mistake(&format!("a name is a word of small letters, digits and _ that begins with a letter, and not in3 or one of {kept}")));
         }
         self.once(line, format!("name {word}"))?;
         line.skip();
@@ -139,12 +142,12 @@ impl Reader {
             return Err(line.mistake("a `=` is due, as in `name step = in 0`"));
         }
         let signed = line.take("signed");
-        let mut wires = vec![wire(line, &[])?];
+        let mut wires = vec![wire(line, &self.names)?];
         while line.peek().is_some() {
-            wires.push(wire(line, &[])?);
-        }
-        if wires.len() > MOST_WIRES {
-            return Err(line.mistake(&format!("a name has at most {MOST_WIRES} wires")));
+            if wires.len() == MOST_WIRES {
+                return Err(line.mistake(&format!("a name has at most {MOST_WIRES} wires")));
+            }
+            wires.push(wire(line, &self.names)?);
         }
         let word = word.to_string();
         self.names.push(Name {
@@ -180,7 +183,9 @@ impl Reader {
 fn is_name(word: &str) -> bool {
     let lowercase = |x: char| x.is_ascii_lowercase() || x.is_ascii_digit() || x == '_';
     let begins = word.starts_with(|x: char| x.is_ascii_lowercase());
-    let is_taken = KEPT.contains(&word) || names::input_named(word).is_some();
+    let digits = word.strip_prefix("in").unwrap_or("x");
+    let is_input = digits.bytes().all(|x| x.is_ascii_digit());
+    let is_taken = KEPT.contains(&word) || is_input;
     begins && word.chars().all(lowercase) && !is_taken
 }
 
@@ -233,7 +238,7 @@ fn driver(line: &mut Line, names: &Names) -> Result<u16, Mistake> {
 /// `in 3`, `in3`, `s0.AQ`, or a name given before that stands for one wire.
 fn wire(line: &mut Line, names: &Names) -> Result<Wire, Mistake> {
     if line.take("in") {
-        return Ok(Wire::Input(line.number(3839)?));
+        return Ok(Wire::Input(line.number(names::LAST_INPUT)?));
     }
     let word = line.peek().unwrap_or_default();
     let wire = match names.iter().find(|name| name.word == word) {
@@ -284,24 +289,5 @@ fn flops(line: &mut Line) -> Result<u8, Mistake> {
         if line.peek().is_none() {
             return Ok(byte);
         }
-    }
-}
-
-#[cfg(test)]
-mod tests {
-    use super::*;
-    use model::layout::NUMBER;
-
-    /// The number in a slice's body is never touched.
-    #[test]
-    fn numbers_stay() {
-        let parsed = parse("slices 3\nslice 2 SLICEM\nA1 = 1\n").expect("a text");
-        let numbers: Vec<u8> = parsed
-            .records
-            .slices
-            .iter()
-            .map(|body| body[NUMBER])
-            .collect();
-        assert_eq!(numbers, [0, 1, 2]);
     }
 }

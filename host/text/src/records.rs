@@ -12,7 +12,9 @@ pub struct Records {
 }
 
 /// The longest file that has records in order: n is one byte.
-pub const LONGEST: usize = SIZE_RECORD + 255 * SLICE_RECORD + END_RECORD;
+pub fn longest() -> usize {
+    file_length(usize::from(u8::MAX))
+}
 
 impl Records {
     /// n slices of zeros but for their numbers.
@@ -31,27 +33,30 @@ impl Records {
 
     /// The records of a file, where they are whole and in order and nothing follows.
     pub fn of(file: &[u8]) -> Option<Records> {
-        let &[TAG_SIZE, 2, 0, n, m, ref rest @ ..] = file else {
-            return None;
-        };
-        let bodies = rest.strip_suffix(&[TAG_END, 0, 0])?;
-        if bodies.len() != SLICE_RECORD * usize::from(n) {
+        let (&[n, m], slices) = file
+            .strip_prefix(&header(TAG_SIZE, SIZE_BODY))?
+            .strip_suffix(&header(TAG_END, END_BODY))?
+            .split_first_chunk()?;
+        if slices.len() != SLICE_RECORD * usize::from(n) {
             return None;
         }
         let mut records = Records::zeros(n, m);
-        for (body, record) in records.slices.iter_mut().zip(bodies.chunks(SLICE_RECORD)) {
-            let due = [TAG_SLICE, SLICE_BODY as u8, 0, body[NUMBER]];
-            let is_due = record.starts_with(&due);
-            body.copy_from_slice(is_due.then_some(&record[HEADER..])?);
+        for (body, record) in records.slices.iter_mut().zip(slices.chunks(SLICE_RECORD)) {
+            let stands = record.strip_prefix(&header(TAG_SLICE, SLICE_BODY))?;
+            let is_due = stands[NUMBER] == body[NUMBER];
+            body.copy_from_slice(is_due.then_some(stands)?);
         }
         Some(records)
     }
 
     /// The file.
     pub fn bytes(&self) -> Vec<u8> {
-        let mut file = vec![TAG_SIZE, SIZE_BODY as u8, 0, self.n, self.m];
-        file.extend(self.slices.iter().flat_map(|body| slice_record(body)));
-        file.extend([TAG_END, 0, 0]);
-        file
+        let slices = self.slices.iter().flat_map(|body| slice_record(body));
+        let size = header(TAG_SIZE, SIZE_BODY)
+            .into_iter()
+            .chain([self.n, self.m]);
+        size.chain(slices)
+            .chain(header(TAG_END, END_BODY))
+            .collect()
     }
 }

@@ -3,7 +3,7 @@
 use model::layout::*;
 use testkit::column::{z, Column};
 use text::names::Wire;
-use text::{changes, parse, show, Name, Records};
+use text::{changes, parse, show, Mistake, Name, Records};
 
 fn records(column: Column) -> Records {
     Records::of(&column.bytes()).expect("records in order")
@@ -163,228 +163,112 @@ slice 1\nA=A1&!A2|A3\nA1 = step\nA2 = in1\nslice 0 SLICEM\n  power-up none\nA1 =
     assert_eq!(parsed.names, names);
 }
 
-/// Each text with the line and column of its mistake, how much is marked, and how its message begins.
+/// A mistake starts so: line, column, how much is marked, and the message.
+fn assert_mistake(text: &str, expected: &str) {
+    let start = &text[..text.len().min(80)];
+    let Mistake {
+        line,
+        column,
+        width,
+        message,
+    } = parse(text).expect_err(start);
+    let found = format!("{line}:{column}+{width} {message}");
+    assert!(
+        found.starts_with(expected),
+        "{start}: {found}, not {expected}"
+    );
+}
+
 #[test]
 fn mistakes_are_placed() {
-    let deep = format!("slices 1\nslice 0\nA = {}A1", "A1 ? A1 : ".repeat(100_000));
-    let long = format!(
-        "slices 1\nslice 0\nA = {}A1{}",
-        "(".repeat(40),
-        ")".repeat(40)
-    );
-    for (text, line, column, width, message) in [
-        ("", 0, 0, 0, "no line says how many slices there are"),
-        ("# nothing\n\n", 0, 0, 0, "no line says how many slices"),
-        (
-            "slices",
-            1,
-            7,
-            1,
-            "the line ends here: a number from 0 to 255",
-        ),
-        (
-            "slices 256",
-            1,
-            8,
-            3,
-            "`256`: a number from 0 to 255 is due",
-        ),
-        ("slices -1", 1, 8, 2, "`-1`: a number"),
-        ("slices 01", 1, 8, 2, "`01`: a number"),
-        ("slices 1 2", 1, 10, 1, "`2`: nothing more"),
-        (
-            "slices 1\nslices 1",
-            2,
-            1,
-            6,
-            "`slices`: line 1 has said this",
-        ),
-        ("slice 0", 1, 1, 5, "`slice`: a line such as `slices 2`"),
-        ("slices 1\nslice 1", 2, 7, 1, "`1`: a number from 0 to 0"),
-        (
-            "slices 1\nslice 0\nslice 0",
-            3,
-            7,
-            1,
-            "`0`: line 2 has said this",
-        ),
+    for (text, expected) in [
+        ("", "0:0+0 no line says how many slices there are"),
+        ("# nothing\n\n", "0:0+0 no line says how many slices"),
+        ("slices", "1:7+1 the line ends here: a number from 0 to 255"),
+        ("slices 256", "1:8+3 `256`: a number from 0 to 255 is due"),
+        ("slices -1", "1:8+2 `-1`: a number"),
+        ("slices 01", "1:8+2 `01`: a number"),
+        ("slices 1 2", "1:10+1 `2`: nothing more"),
+        ("slices 1\nslices 1", "2:1+6 `slices`: line 1 has said this"),
+        ("slice 0", "1:1+5 `slice`: a line such as `slices 2`"),
+        ("slices 1\nslice 1", "2:7+1 `1`: a number from 0 to 0"),
         (
             "slices 1\nslice 0 SLICEX",
-            2,
-            9,
-            6,
-            "`SLICEX`: SLICEL, SLICEM or `choice 7`",
+            "2:9+6 `SLICEX`: SLICEL, SLICEM or `choice 7`",
         ),
-        (
-            "slices 1\nA1 = 1",
-            2,
-            1,
-            2,
-            "`A1`: a line such as `slice 0`",
-        ),
-        (
-            "slices 1\nslice 0\n  A7 = 1",
-            3,
-            3,
-            2,
-            "`A7`: no line begins so",
-        ),
+        ("slices 1\nA1 = 1", "2:1+2 `A1`: a line such as `slice 0`"),
         (
             "slices 1\nslice 0\nA1 = 1\nA1 = 1",
-            4,
-            1,
-            2,
-            "`A1`: line 3 has said this",
+            "4:1+2 `A1`: line 3 has said this",
         ),
+        ("name In = in 0", "1:6+2 `In`: a name is a word of small"),
+        ("name in = in 0", "1:6+2 `in`: a name is"),
+        ("name in3 = in 0", "1:6+3 `in3`: a name is"),
+        ("name in03 = in 0", "1:6+4 `in03`: a name is"),
+        ("name clock = in 0", "1:6+5 `clock`: a name is"),
         (
-            "slices 1\nslice 0\nA1 = 2",
-            3,
-            6,
-            1,
-            "`2`: an input (`in 3`), a signal",
+            "slices 0\nslice 0",
+            "2:1+5 `slice`: the column has no slices",
         ),
-        (
-            "slices 1\nslice 0\nA1 = in 3840",
-            3,
-            9,
-            4,
-            "`3840`: a number from 0 to 3839",
-        ),
-        (
-            "slices 1\nslice 0\nA1 = s0.A.sum",
-            3,
-            6,
-            8,
-            "`s0.A.sum`: a pin is driven by 0, 1",
-        ),
-        (
-            "slices 1\nslice 0\nA1 = s9999.AQ",
-            3,
-            6,
-            8,
-            "`s9999.AQ`: a pin is driven by 0, 1",
-        ),
-        (
-            "slices 1\nslice 0\nA1 = code 65536",
-            3,
-            11,
-            5,
-            "`65536`: a number from 0 to 65535",
-        ),
-        ("slices 1\nslice 0\nA1 = step", 3, 6, 4, "`step`: an input"),
-        (
-            "slices 1\nslice 0\nA1 =",
-            3,
-            5,
-            1,
-            "the line ends here: an input",
-        ),
-        (
-            "slices 1\nslice 0\nA mode shft",
-            3,
-            8,
-            4,
-            "`shft`: logic, memory, shift or `choice 7`",
-        ),
-        (
-            "slices 1\nslice 0\nA mode choice 256",
-            3,
-            15,
-            3,
-            "`256`: a number from 0 to 255",
-        ),
-        (
-            "slices 1\nslice 0\nA = B1",
-            3,
-            5,
-            2,
-            "`B1`: an operand is A1 to A6",
-        ),
-        (
-            "slices 1\nslice 0\nA = 2",
-            3,
-            5,
-            1,
-            "`2`: an operand is A1 to A6",
-        ),
-        (
-            "slices 1\nslice 0\nA = (A1",
-            3,
-            8,
-            1,
-            "the line ends here: a `)` is due",
-        ),
-        (
-            "slices 1\nslice 0\nA = A1 ? A2",
-            3,
-            12,
-            1,
-            "the line ends here: a `:` is due",
-        ),
-        (
-            "slices 1\nslice 0\nA = A1 A2",
-            3,
-            8,
-            2,
-            "`A2`: nothing more",
-        ),
-        (
-            "slices 1\nslice 0\nA = 0x",
-            3,
-            5,
-            2,
-            "`0x`: not 1 to 16 hexadecimal",
-        ),
-        (
-            "slices 1\nslice 0\nA = 0x10000000000000000",
-            3,
-            5,
-            19,
-            "`0x10000000000000000`: not 1",
-        ),
-        ("slices 1\nslice 0\nA = 0xg", 3, 5, 3, "`0xg`: not 1 to 16"),
-        ("slices 1\nslice 0\nA = 0x+1", 3, 5, 2, "`0x`: not 1 to 16"),
-        ("slices 1\nslice 0\nA = ä", 3, 5, 1, "`ä`: an operand"),
-        (
-            "slices 1\nslice 0\nset AQ E5Q",
-            3,
-            8,
-            3,
-            "`E5Q`: flip-flops are due",
-        ),
-        (
-            "slices 1\nslice 0\nset none AQ",
-            3,
-            10,
-            2,
-            "`AQ`: nothing more",
-        ),
-        ("name In = in 0", 1, 6, 2, "`In`: a name is a word of small"),
-        ("name in = in 0", 1, 6, 2, "`in`: a name is"),
-        ("name in3 = in 0", 1, 6, 3, "`in3`: a name is"),
-        ("name step in 0", 1, 11, 2, "`in`: a `=` is due"),
+        ("name far = in3840", "1:12+6 `in3840`: an input"),
+        ("name step in 0", "1:11+2 `in`: a `=` is due"),
         (
             "name a = in 0\nname a = in 1",
-            2,
-            6,
-            1,
-            "`a`: line 1 has said this",
+            "2:6+1 `a`: line 1 has said this",
         ),
         (
             "name a = in 0 in 1\nslices 1\nslice 0\nA1 = a",
-            4,
-            6,
-            1,
-            "`a`: this name stands for more",
+            "4:6+1 `a`: this name stands for more",
         ),
-        (&deep, 3, 320, 2, "`A1`: more than 32 expressions"),
-        (&long, 3, 37, 1, "`(`: more than 32 expressions"),
     ] {
-        let start = &text[..text.len().min(80)];
-        let mistake = parse(text).expect_err(start);
-        let place = (mistake.line, mistake.column, mistake.width);
-        assert_eq!(place, (line, column, width), "{start}: {mistake:?}");
-        assert!(mistake.message.starts_with(message), "{start}: {mistake:?}");
+        assert_mistake(text, expected);
+    }
+}
+
+/// Lines of a slice, each with the column of its mistake.
+#[test]
+fn mistakes_in_a_slice() {
+    let brackets = format!("A = {}A1", "(".repeat(40));
+    let selects = format!("A = {}A1", "A1 ? A1 : ".repeat(400));
+    let long = format!("A = {}A1", "!".repeat(4092));
+    for (line, expected) in [
+        ("slice 0", "7+1 `0`: line 2 has said this"),
+        ("  A7 = 1", "3+2 `A7`: no line begins so"),
+        ("A1 = 2", "6+1 `2`: an input (`in 3`), a signal"),
+        ("A1 = in 3840", "9+4 `3840`: a number from 0 to 3839"),
+        ("A1 = s0.A.sum", "6+8 `s0.A.sum`: a pin is driven by 0, 1"),
+        ("A1 = s9999.AQ", "6+8 `s9999.AQ`: an input"),
+        ("A1 = code 65536", "11+5 `65536`: a number from 0 to 65535"),
+        ("A1 = step", "6+4 `step`: an input"),
+        ("A1 =", "5+1 the line ends here: an input"),
+        (
+            "A mode shft",
+            "8+4 `shft`: logic, memory, shift or `choice 7`",
+        ),
+        ("A mode choice 256", "15+3 `256`: a number from 0 to 255"),
+        ("A = B1", "5+2 `B1`: an operand is A1 to A6"),
+        ("A = 2", "5+1 `2`: an operand is A1 to A6"),
+        ("A = (A1", "8+1 the line ends here: a `)` is due"),
+        ("A = A1 ? A2", "12+1 the line ends here: a `:` is due"),
+        ("A = A1 A2", "8+2 `A2`: nothing more"),
+        ("A = 0x", "5+2 `0x`: not 1 to 16 hexadecimal"),
+        (
+            "A = 0x10000000000000000",
+            "5+19 `0x10000000000000000`: not 1",
+        ),
+        ("A = 0xg", "5+3 `0xg`: not 1 to 16"),
+        ("A = 0x+1", "5+2 `0x`: not 1 to 16"),
+        ("A = ä", "5+1 `ä`: an operand"),
+        ("set AQ E5Q", "8+3 `E5Q`: flip-flops are due"),
+        ("set none AQ", "10+2 `AQ`: nothing more"),
+        (&brackets, "37+1 `(`: more than 32 expressions"),
+        (&long, "4097+1 a line has at most 4096 characters"),
+        (&selects, "320+2 `A1`: more than 32 expressions"),
+    ] {
+        assert_mistake(
+            &format!("slices 1\nslice 0\n{line}"),
+            &format!("3:{expected}"),
+        );
     }
 }
 
@@ -400,11 +284,11 @@ fn mistakes_are_marked() {
     let empty = parse("\n").expect_err("a mistake").report("file", "\n");
     let expected = "file: no line says how many slices there are, as `slices 2` does";
     assert_eq!(empty, expected);
-    let far = format!("slices 1\nslice 0\nA = {}A1 | x", "A1 | ".repeat(1000));
+    let far = format!("slices 1\nslice 0\nA = {}A1 | x", "A1 | ".repeat(800));
     let report = parse(&far).expect_err("a mistake").report("file", &far);
     let lines: Vec<&str> = report.lines().collect();
     assert_eq!(
-        (lines.len(), lines[0].starts_with("file:3:5010: `x`: ")),
+        (lines.len(), lines[0].starts_with("file:3:4010: `x`: ")),
         (3, true)
     );
     assert_eq!(lines[1].find('x'), lines[2].find('^'));

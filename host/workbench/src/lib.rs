@@ -3,7 +3,7 @@
 pub mod lent;
 
 use crate::lent::Lent;
-use calls::Answer;
+use calls::{Accepted, Answer};
 
 /// A file and the buffers of its calls.
 #[derive(Clone, Debug, PartialEq)]
@@ -18,14 +18,16 @@ pub struct Workbench {
 impl Workbench {
     /// A file with buffers of the lengths that its size record names. What is only filled holds junk.
     pub fn of(file: Vec<u8>) -> Workbench {
-        let n = usize::from(file[3]);
-        let m = usize::from(file[4]);
+        let size = Accepted {
+            n: usize::from(file[3]),
+            m: usize::from(file[4]),
+        };
         Workbench {
             file: Lent::bytes(&file),
-            contents: Lent::words(&vec![0xDEAD; 4 * n]),
-            flops: Lent::bytes(&vec![0x5A; n]),
-            inputs: Lent::bytes(&vec![0; m]),
-            values: Lent::bytes(&vec![7; 32 * n]),
+            contents: Lent::words(&vec![0xDEAD; size.tables()]),
+            flops: Lent::bytes(&vec![0x5A; size.n]),
+            inputs: Lent::bytes(&vec![0; size.m]),
+            values: Lent::bytes(&vec![7; size.signals()]),
         }
     }
 

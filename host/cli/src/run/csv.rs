@@ -2,9 +2,10 @@
 
 use quagmuffin::Column;
 
-use super::output::{Output, Sink};
 use super::watch::Watched;
+use super::Output;
 use crate::failure::Outcome;
+use crate::output::Sink;
 
 pub struct Csv {
     to: Sink,
@@ -18,7 +19,7 @@ impl Csv {
             .iter()
             .map(|one| format!(",{}", one.title))
             .collect();
-        to.write(&format!("clock{titles}\n"))?;
+        to.write(format!("clock{titles}\n"))?;
         Ok(Csv { to, watched })
     }
 }
@@ -30,7 +31,7 @@ impl Output for Csv {
             .iter()
             .map(|one| format!(",{}", one.value(column)));
         let values: String = values.collect();
-        self.to.write(&format!("{clock}{values}\n"))
+        self.to.write(format!("{clock}{values}\n"))
     }
 
     fn finish(&mut self, _clocks: usize) -> Outcome<()> {

@@ -1,9 +1,9 @@
 //! Edits before clocks of a run.
 
-use model::design::SIGNALS;
 use model::layout::LETTERS;
 use quagmuffin::{Accepted, Answer, Column, Refused};
-use text::lines::{Line, Mistake};
+use text::lines::{lines, Line, Mistake};
+use text::names::table_named;
 use text::parse::input;
 use text::Names;
 
@@ -81,32 +81,28 @@ impl Edit {
 
     /// All else was looked at when the words were read.
     fn refused(&self, refused: Refused) -> Failure {
-        let Refused { number, place } = refused;
         let text = &self.text;
         Failure::of(format!(
-            "{text}: refused {number} {place}: in shift mode a table holds 32 bits"
+            "{text}: {refused}: in shift mode a table holds 32 bits"
         ))
     }
 }
 
 /// An edit on each line of a text.
 fn parse(name: &str, text: &str, scope: &Scope) -> Outcome<Vec<Edit>> {
-    let mut edits = vec![];
-    for (number, words) in (1..).zip(text.lines()) {
-        let mut line = Line::new(number, words);
-        if line.peek().is_some() {
-            let edit = edit(&mut line, words, scope);
-            edits.push(edit.map_err(|mistake| source::mistaken(name, text, &mistake))?);
-        }
-    }
-    Ok(edits)
+    let edits = lines(text).map(|line| edit(&mut line?, scope));
+    let edits: Result<_, _> = edits.collect();
+    edits.map_err(|mistake| source::mistaken(name, text, &mistake))
 }
 
 /// `3: in 0 = 1` or `8: s0.A = A1 & A2`.
-fn edit(line: &mut Line, words: &str, scope: &Scope) -> Result<Edit, Mistake> {
+fn edit(line: &mut Line, scope: &Scope) -> Result<Edit, Mistake> {
     let clock = line.number(scope.clocks - 1)?;
     due(line, ":")?;
-    let table = line.peek().and_then(|word| table(word, scope.size.n));
+    let table = line
+        .peek()
+        .and_then(table_named)
+        .filter(|&table| table < scope.size.tables());
     let change = match table {
         Some(table) => {
             line.skip();
@@ -120,7 +116,7 @@ fn edit(line: &mut Line, words: &str, scope: &Scope) -> Result<Edit, Mistake> {
         }
     };
     line.ended()?;
-    let text = words.split('#').next().unwrap_or(words).trim().to_string();
+    let text = line.text.to_string();
     Ok(Edit {
         clock,
         change,
@@ -135,11 +131,4 @@ fn due(line: &mut Line, symbol: &str) -> Result<(), Mistake> {
             "a `{symbol}` is due, as in `3: in 0 = 1` or `8: s0.A = A1 & A2`"
         ))),
     }
-}
-
-/// The number of a table by its name, `s0.A`: letter A has O6 as its slice's signal 0, and so on.
-fn table(word: &str, n: usize) -> Option<usize> {
-    let signal = text::names::signal_named(&format!("{word}.O6"))?;
-    let (slice, letter) = (signal / SIGNALS, signal % SIGNALS);
-    (slice < n).then_some(LETTERS.len() * slice + letter)
 }

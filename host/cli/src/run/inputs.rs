@@ -1,19 +1,19 @@
 //! The outside inputs of a run, clock by clock.
 
-use text::lines::{Line, Mistake};
+use export::bench::MOST_CLOCKS;
+use text::lines::{lines, Line, Mistake};
 use text::parse::input;
 use text::Names;
 
-use crate::args::{Stimulus, MOST_CLOCKS};
+use crate::args::Stimulus;
 use crate::failure::{name, Outcome};
 use crate::source;
 
 /// The clocks of a run where nothing says how many.
 const USUAL_CLOCKS: usize = 10;
 
-/// The most lines of inputs, and the bytes that they take with 64 digits each and a space after each.
-const MOST_ROWS: usize = MOST_CLOCKS as usize;
-const LONGEST_INPUTS: usize = MOST_ROWS * 128;
+/// The bytes of a line for each clock, with 64 digits and a space after each.
+const LONGEST: usize = MOST_CLOCKS * 128;
 
 /// How many clocks there are, and the inputs of the first of them.
 #[derive(Debug, PartialEq)]
@@ -30,7 +30,7 @@ impl Inputs {
         let (given, rows) = match &stimulus.inputs {
             None => (vec![], vec![]),
             Some(path) => {
-                let text = source::any_text(path, LONGEST_INPUTS)?;
+                let text = source::any_text(path, LONGEST)?;
                 parse(&text, names, m)
                     .map_err(|mistake| source::mistaken(&name(path), &text, &mistake))?
             }
@@ -69,20 +69,23 @@ impl Inputs {
 
 /// The inputs that are given, and a row for each clock.
 fn parse(text: &str, names: &Names, m: usize) -> Result<(Vec<usize>, Vec<Vec<u8>>), Mistake> {
-    let mut given: Vec<usize> = (0..m).collect();
+    let mut given = None;
     let mut rows = vec![];
-    for (number, line) in (1..).zip(text.lines()) {
-        let mut line = Line::new(number, line);
-        match line.peek() {
-            None => {}
-            Some("inputs") if rows.is_empty() => given = header(&mut line, names, m)?,
-            Some(_) if rows.len() == MOST_ROWS => {
-                return Err(line.mistake(&format!("there are at most {MOST_ROWS} lines of inputs")));
-            }
-            Some(_) => rows.push(row(&mut line, given.len())?),
+    for line in lines(text) {
+        let mut line = line?;
+        if rows.is_empty() && given.is_none() && line.peek() == Some("inputs") {
+            given = Some(header(&mut line, names, m)?);
+            continue;
         }
+        if rows.len() == MOST_CLOCKS {
+            return Err(line.mistake(&format!("there are at most {MOST_CLOCKS} lines of inputs")));
+        }
+        rows.push(row(&mut line, given.as_ref().map_or(m, Vec::len))?);
     }
-    Ok((given, rows))
+    match rows.is_empty() {
+        true => Err(Mistake::of_all("no line of inputs")),
+        false => Ok((given.unwrap_or((0..m).collect()), rows)),
+    }
 }
 
 /// `inputs step in3 0`: by name or by number.

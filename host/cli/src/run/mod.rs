@@ -3,24 +3,36 @@
 mod csv;
 mod edits;
 pub mod inputs;
-mod output;
 mod progress;
 mod table;
 mod vcd;
 mod watch;
 
 use std::io::{stdout, IsTerminal};
-use std::path::{Path, PathBuf};
+use std::path::Path;
 
 use quagmuffin::{Accepted, Answer, Column, Refused};
 
 use crate::args::Run;
 use crate::failure::{Failure, Outcome};
+use crate::output::{Sink, Used};
 use crate::source::{self, Design};
+use csv::Csv;
 use edits::{Edit, Edits};
 use inputs::Inputs;
-use output::{create, Output};
 use progress::Progress;
+use table::Table;
+use vcd::Vcd;
+use watch::Watched;
+
+/// Takes the rows of a run.
+trait Output {
+    /// The values settled before a clock's edge.
+    fn row(&mut self, clock: usize, column: &Column) -> Outcome<()>;
+
+    /// All rows were taken.
+    fn finish(&mut self, clocks: usize) -> Outcome<()>;
+}
 
 pub fn run(words: &Run) -> Outcome<u8> {
     let design = source::design(&words.file)?;
@@ -28,8 +40,7 @@ pub fn run(words: &Run) -> Outcome<u8> {
     let inputs = Inputs::read(&words.stimulus, &design.names, column.size().m)?;
     let edits = Edits::read(words, &design.names, &column, inputs.clocks)?;
     let mut outputs = outputs(words, &design, column.size())?;
-    let is_free = !shows_table(words) || !stdout().is_terminal();
-    let mut progress = Progress::new(inputs.clocks, is_free);
+    let mut progress = Progress::new(inputs.clocks, !writes_to_terminal(words));
     for clock in 0..inputs.clocks {
         inputs.set(clock, column.inputs_mut());
         clocked(&mut column, edits.before(clock)).map_err(|refused| not_run(clock, refused))?;
@@ -58,40 +69,35 @@ fn clocked(column: &mut Column, edits: &[Edit]) -> Answer {
 
 /// The library refused what was looked at before: that is no affair of the file's.
 fn not_run(clock: usize, refused: Refused) -> Failure {
-    let Refused { number, place } = refused;
-    Failure::of(format!("at clock {clock}: refused {number} {place}"))
+    Failure::of(format!("at clock {clock}: {refused}"))
 }
 
-fn shows_table(words: &Run) -> bool {
-    words.vcd.is_none() && words.csv.is_none()
-}
-
-/// The table, or the files in its place.
+/// The table, or the files in its place. All are opened before the first is written.
 fn outputs(words: &Run, design: &Design, size: Accepted) -> Outcome<Vec<Box<dyn Output>>> {
-    let is_out = |path: &Option<PathBuf>| path.as_deref() == Some(Path::new("-"));
-    if is_out(&words.vcd) && is_out(&words.csv) {
-        return Err(Failure::of("--vcd and --csv can't both be standard output"));
-    }
-    let watched = match words.watch.is_empty() {
-        true => watch::usual(design, size)?,
-        false => watch::chosen(&words.watch, design, size)?,
+    type Unchosen = fn(&Design, Accepted) -> Outcome<Vec<Watched>>;
+    let watched = |unchosen: Unchosen| match words.watch.is_empty() {
+        true => unchosen(design, size),
+        false => watch::chosen(&words.watch, design, size),
     };
+    let (waves, values) = (watched(watch::all)?, watched(watch::usual)?);
+    let mut used = Used::by_reading(words.read_files());
+    let mut create = |path: Option<&Path>| path.map(|path| used.create(path)).transpose();
+    let (vcd, csv) = (create(words.vcd.as_deref())?, create(words.csv.as_deref())?);
     let mut outputs: Vec<Box<dyn Output>> = vec![];
-    if let Some(path) = &words.vcd {
-        let waves = match words.watch.is_empty() {
-            true => &watch::all(design, size)?,
-            false => &watched,
-        };
-        outputs.push(Box::new(vcd::Vcd::begin(create(path)?, waves)?));
+    if let Some(sink) = vcd {
+        outputs.push(Box::new(Vcd::begin(sink, &waves)?));
     }
-    if let Some(path) = &words.csv {
-        outputs.push(Box::new(csv::Csv::begin(create(path)?, watched.clone())?));
-    }
-    if shows_table(words) {
-        outputs.push(Box::new(table::Table::begin(
-            create(Path::new("-"))?,
-            watched,
-        )?));
+    if let Some(sink) = csv {
+        outputs.push(Box::new(Csv::begin(sink, values)?));
+    } else if outputs.is_empty() {
+        outputs.push(Box::new(Table::begin(Sink::standard_output(), values)?));
     }
     Ok(outputs)
+}
+
+/// Whether the terminal shows the rows, so that nothing else can be drawn on it.
+fn writes_to_terminal(words: &Run) -> bool {
+    let files = [words.vcd.as_deref(), words.csv.as_deref()];
+    let shows_rows = files == [None, None] || files.contains(&Some(Path::new("-")));
+    shows_rows && stdout().is_terminal()
 }

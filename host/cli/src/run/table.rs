@@ -2,9 +2,10 @@
 
 use quagmuffin::Column;
 
-use super::output::{Output, Sink};
 use super::watch::Watched;
+use super::Output;
 use crate::failure::Outcome;
+use crate::output::Sink;
 
 /// The first column has the clocks, up to 999999.
 const CLOCK: &str = "clock ";
@@ -18,7 +19,7 @@ impl Table {
     /// Writes the titles.
     pub fn begin(mut to: Sink, watched: Vec<Watched>) -> Outcome<Table> {
         let titles: String = watched.iter().map(|one| cell(one, &one.title)).collect();
-        to.write(&format!("{CLOCK}{titles}\n"))?;
+        to.write(format!("{CLOCK}{titles}\n"))?;
         Ok(Table { to, watched })
     }
 }

@@ -4,9 +4,10 @@
 use quagmuffin::Column;
 use text::names::Wire;
 
-use super::output::{Output, Sink};
 use super::watch::{bit, Watched};
+use super::Output;
 use crate::failure::Outcome;
+use crate::output::Sink;
 
 /// A clock's time, and that of its edge.
 const PERIOD: usize = 10;
@@ -44,7 +45,7 @@ impl Vcd {
             text += &format!("$var wire 1 {} {} $end\n", short_name(place), wave.name);
         }
         text += &change_of_scope(scope, None);
-        to.write(&(text + "$upscope $end\n$enddefinitions $end\n"))?;
+        to.write(text + "$upscope $end\n$enddefinitions $end\n")?;
         let before = vec![None; waves.len()];
         Ok(Vcd { to, waves, before })
     }
@@ -61,11 +62,11 @@ impl Output for Vcd {
             }
         }
         text += &format!("#{}\n1{CLK}\n", start + EDGE);
-        self.to.write(&text)
+        self.to.write(text)
     }
 
     fn finish(&mut self, clocks: usize) -> Outcome<()> {
-        self.to.write(&format!("#{}\n", PERIOD * clocks))?;
+        self.to.write(format!("#{}\n", PERIOD * clocks))?;
         self.to.flush()
     }
 }

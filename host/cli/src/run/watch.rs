@@ -67,7 +67,10 @@ fn wires(size: Accepted) -> impl Iterator<Item = Wire> {
 
 /// The text's names. They have to name what the column has.
 fn named(design: &Design, size: Accepted) -> Outcome<Vec<Watched>> {
-    let missing = |wire: &&Wire| !wires(size).any(|x| x == **wire);
+    let missing = |wire: &&Wire| match **wire {
+        Wire::Input(input) => input >= size.m,
+        Wire::Signal(signal) => signal >= SIGNALS * size.n,
+    };
     let watched = |name: &Name| match name.wires.iter().find(missing) {
         Some(&wire) => {
             let (word, wire) = (&name.word, names::wire(wire));
@@ -142,15 +145,21 @@ fn matching(word: &str, all: &[Watched], size: Accepted) -> Vec<Watched> {
         .collect()
 }
 
-/// Whether a name is as a pattern says, in which `*` stands for any letters.
+/// Whether a name is as a pattern says, in which `*` stands for any letters. Between the first `*` and the last each part is looked for from where
+/// the one before it ended: if it is found later it is found there as well.
 fn matches(pattern: &str, name: &str) -> bool {
-    match pattern.split_once('*') {
-        None => pattern == name,
-        Some((start, rest)) => name.strip_prefix(start).is_some_and(|name| {
-            (0..=name.len())
-                .any(|skipped| name.is_char_boundary(skipped) && matches(rest, &name[skipped..]))
-        }),
-    }
+    let Some((start, rest)) = pattern.split_once('*') else {
+        return pattern == name;
+    };
+    let (middle, end) = rest.rsplit_once('*').unwrap_or(("", rest));
+    let inner = name
+        .strip_prefix(start)
+        .and_then(|name| name.strip_suffix(end));
+    inner.is_some_and(|inner| {
+        let mut parts = middle.split('*');
+        let left = parts.try_fold(inner, |inner, part| Some(inner.split_once(part)?.1));
+        left.is_some()
+    })
 }
 
 #[cfg(test)]
@@ -169,6 +178,12 @@ mod tests {
             ("s*.*.O6", "s12.DQ", false),
             ("*.AQ", "s3.AQ", true),
             ("s0.**", "s0.F8", true),
+            ("*0*0*", "s0.D.O6", false),
+            ("s*s", "s", false),
+            ("*.*.*", "s0.A.O6", true),
+            ("*.*.*.*", "s0.A.O6", false),
+            ("*a*ab*", "aab", true),
+            ("****************************x", "s0.A.carry", false),
         ] {
             assert_eq!(matches(pattern, name), expected, "{pattern} {name}");
         }

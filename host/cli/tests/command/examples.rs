@@ -6,9 +6,13 @@ use crate::folder::{example, rows, Folder};
 
 /// Builds an example, and gives the rows of a run of the slice file that has it: the watched values after the clock's number.
 fn run(name: &str, inputs: &[String], watch: &str) -> Vec<Vec<i64>> {
-    let folder = Folder::new(
-        &format!("example {name}"),
-        &[("inputs", inputs.join("\n").as_bytes())],
+    let folder = Folder::new(&format!("example {name}"));
+    folder.put(
+        "inputs",
+        inputs.join(
+            "
+",
+        ),
     );
     let text = example(&format!("{name}.txt"));
     folder.text(&["write", &text, "-o", "file"]);
@@ -68,6 +72,7 @@ fn accumulator_adds_up() {
         &inputs,
         "s0.AQ,s0.BQ,s0.CQ,s0.DQ,s1.AQ,s1.BQ,s1.CQ,s1.DQ",
     );
+    assert_eq!(rows.len(), steps.len());
     for (row, (size, back)) in rows.iter().zip(steps) {
         assert_eq!(
             number(&row[1..9]),
@@ -90,7 +95,7 @@ fn accumulator_adds_up() {
 /// By its own name it is shown with its sign.
 #[test]
 fn accumulator_by_its_name() {
-    let folder = Folder::new("example signed", &[]);
+    let folder = Folder::new("example signed");
     let (text, inputs) = (example("accumulator.txt"), example("accumulator.inputs"));
     let csv = folder.text(&[
         "run", &text, "--inputs", &inputs, "--watch", "position", "--csv", "-",
@@ -144,7 +149,7 @@ fn memory_keeps_what_was_written() {
 /// Each runs as its own comment says, and shows its names.
 #[test]
 fn examples_run_as_they_say() {
-    let folder = Folder::new("example comments", &[]);
+    let folder = Folder::new("example comments");
     for (name, titles, clocks) in [
         ("divider", "clock,step,count,pulse", 16),
         ("accumulator", "clock,size,back,position", 11),
@@ -186,7 +191,7 @@ fn examples_run_as_they_say() {
 /// The loop is explained as its comment says, and is mended as it says.
 #[test]
 fn loop_is_explained_and_mended() {
-    let folder = Folder::new("example loop", &[]);
+    let folder = Folder::new("example loop");
     let text = std::fs::read_to_string(example("loop.txt")).expect("the example");
     let written = folder.run(&["write", &example("loop.txt"), "-o", "loop.bin"]);
     assert_eq!(
@@ -200,8 +205,12 @@ fn loop_is_explained_and_mended() {
     assert!(text.contains("in slice 3, B1 = s1.AQ."));
     folder.put(
         "mended.txt",
-        text.replace("  B1 = s1.A.O6\n", "  B1 = s1.AQ\n")
-            .as_bytes(),
+        text.replace(
+            "  B1 = s1.A.O6
+",
+            "  B1 = s1.AQ
+",
+        ),
     );
     assert_eq!(
         folder.text(&["write", "mended.txt", "-o", "mended"]),

@@ -1,9 +1,12 @@
 //! The command, run as a program.
 
 mod examples;
-mod files;
 mod folder;
+mod inputs;
 mod run;
+mod texts;
 mod tour;
+mod unreadable;
+mod verdicts;
 mod waves;
 mod words;

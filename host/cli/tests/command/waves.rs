@@ -1,17 +1,11 @@
 //! Waves, read back by sigrok-cli, equal the table.
 
-use std::io::Write;
 use std::path::Path;
 use std::process::Command;
-use std::sync::Once;
 
-use model::Verdict;
-use testkit::random;
+use export::iverilog::say_skipped;
 
-use crate::folder::{example, rows, Folder};
-
-/// Whether it was said that the reader is missing.
-static SAID: Once = Once::new();
+use crate::folder::{accepted, example, rows, Folder};
 
 /// The program that reads waves. Where `WAVES` names it, it has to be there; else a test that needs it says that it is skipped.
 fn reader() -> Option<String> {
@@ -21,11 +15,9 @@ fn reader() -> Option<String> {
     if Command::new(&reader).arg("--version").output().is_ok() {
         return Some(reader);
     }
-    assert!(!required, "{reader} isn't installed");
-    SAID.call_once(|| {
-        // Written past the capture of test output, so that a skip is seen.
-        writeln!(std::io::stderr(), "\nskipped: {reader} isn't installed").expect("standard error");
-    });
+    let missing = format!("{reader} isn't installed");
+    assert!(!required, "{missing}");
+    say_skipped(&missing);
     None
 }
 
@@ -68,25 +60,26 @@ fn waves_of_all_signals() {
     let Some(reader) = reader() else {
         return;
     };
-    let folder = Folder::new("waves", &[]);
-    let files = random::files(random::seed() + 4, 1).into_iter();
-    let accepted = files.filter(|file| matches!(model::judge(file), Verdict::Accepted { .. }));
-    for file in accepted.step_by(120) {
+    let folder = Folder::new("waves");
+    for file in accepted(4, 120) {
         folder.put("file", &file);
-        folder.text(&["run", "file", "--clocks", "20", "--vcd", "waves"]);
-        let csv = folder.text(&[
-            "run", "file", "--clocks", "20", "--watch", "*", "--csv", "-",
-        ]);
+        let words = ["run", "file", "--clocks", "20"];
+        folder.text(&[&words[..], &["--vcd", "waves"]].concat());
+        let csv = folder.text(&[&words[..], &["--watch", "*", "--csv", "-"]].concat());
         let (names, waves) = read(&reader, &folder.path("waves"));
-        let titles: Vec<&str> = csv.lines().next().expect("titles").split(',').collect();
-        let name = |title: &&str| {
+        let titles = csv.lines().next().expect("titles").split(',').skip(1);
+        // In the scope of its slice a signal has the rest of its name.
+        let name = |title: &str| {
             title
                 .split_once('.')
-                .map_or(*title, |x| x.1)
+                .map_or(title, |x| x.1)
                 .replace('.', "_")
         };
-        assert_eq!(names[0], "clk");
-        assert_eq!(names[1..], titles[1..].iter().map(name).collect::<Vec<_>>());
+        let expected: Vec<String> = ["clk".to_string()]
+            .into_iter()
+            .chain(titles.map(name))
+            .collect();
+        assert_eq!(names, expected);
         assert_waves(&waves, &rows(&csv));
     }
 }
@@ -97,7 +90,7 @@ fn waves_of_names() {
     let Some(reader) = reader() else {
         return;
     };
-    let folder = Folder::new("named waves", &[]);
+    let folder = Folder::new("named waves");
     let (text, inputs) = (example("accumulator.txt"), example("accumulator.inputs"));
     let words = ["run", &text, "--inputs", &inputs];
     folder.text(&[&words[..], &["--watch", "back,size", "--vcd", "waves"]].concat());

@@ -2,11 +2,10 @@
 
 use std::fs::File;
 
-use testkit::cases::worked_file;
 use testkit::command::assert_fails;
 use testkit::run::repository;
 
-use crate::folder::Folder;
+use crate::folder::{written, Folder};
 
 const COMMANDS: [&str; 8] = [
     "judge",
@@ -21,7 +20,7 @@ const COMMANDS: [&str; 8] = [
 
 #[test]
 fn every_command_helps() {
-    let folder = Folder::new("help", &[]);
+    let folder = Folder::new("help");
     let text = folder.text(&["--help"]);
     for command in COMMANDS {
         assert!(text.contains(&format!("\n  {command}")), "{command}");
@@ -43,14 +42,14 @@ fn every_command_helps() {
     );
     // The script has the same list, for before the program is built.
     let script = std::fs::read_to_string(repository().join("quagmuffin")).expect("the script");
-    assert!(script.contains(&format!("\nCommands: {}\n", COMMANDS.join(", "))));
+    assert!(script.contains(&format!("\ncommands=({})\n", COMMANDS.join(" "))));
     let version = format!("quagmuffin {}\n", env!("CARGO_PKG_VERSION"));
     assert_eq!(folder.text(&["--version"]), version);
 }
 
 #[test]
 fn completions_know_the_commands() {
-    let folder = Folder::new("completions", &[]);
+    let folder = Folder::new("completions");
     for shell in ["bash", "elvish", "fish", "powershell", "zsh"] {
         let script = folder.text(&["completions", shell]);
         for word in COMMANDS.iter().chain(&["clocks", "watch", "vcd"]) {
@@ -65,7 +64,7 @@ fn completions_know_the_commands() {
 
 #[test]
 fn wrong_words_get_one_line() {
-    let folder = Folder::new("words", &[("z", &worked_file(1))]);
+    let folder = Folder::with_files("words");
     let words: [&[&str]; 18] = [
         &[],
         &["x"],
@@ -97,7 +96,7 @@ fn wrong_words_get_one_line() {
 /// What can't be written is said, and is no success.
 #[test]
 fn full_output() {
-    let folder = Folder::new("full", &[("z", &worked_file(1))]);
+    let folder = Folder::with_files("full");
     let words: [&[&str]; 6] = [
         &["judge", "z"],
         &["explain", "z"],
@@ -120,16 +119,21 @@ fn full_output() {
     }
 }
 
+/// Where nothing can be said the status still tells.
+#[test]
+fn full_errors() {
+    let folder = Folder::with_files("full errors");
+    let output = folder.shell("quagmuffin judge none 2> /dev/full");
+    assert_eq!(
+        (output.status.code(), &output.stdout[..]),
+        (Some(2), &b""[..])
+    );
+}
+
 /// A reader that goes away is told nothing.
 #[test]
 fn broken_pipe() {
-    let folder = Folder::new("pipe", &[("z", &worked_file(1))]);
-    let (binary, z) = (env!("CARGO_BIN_EXE_quagmuffin"), folder.path("z"));
-    let line = format!("{binary} run {} --clocks 100000 | head -n 1", z.display());
-    let output = std::process::Command::new("bash")
-        .args(["-c", &line])
-        .output();
-    let output = output.expect("bash");
-    assert_eq!(String::from_utf8_lossy(&output.stderr), "");
-    assert!(output.stdout.starts_with(b"clock"));
+    let folder = Folder::with_files("pipe");
+    let output = folder.shell("quagmuffin run z --clocks 100000 | head -n 1");
+    assert!(written(&output, 0).starts_with("clock "));
 }

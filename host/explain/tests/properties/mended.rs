@@ -31,7 +31,7 @@ fn mended(rng: &mut Prng, body: &[u8; SLICE_BODY], n: usize) -> Option<[u8; SLIC
             while (rules.driver)(pin_code(&mended, pin), n, 2).is_none() {
                 let output = 4096 + rng.below(16 * n);
                 let code = *rng.pick(&[0, 1, 256, 257, output, output]) as u16;
-                mended[PINS + 2 * pin..][..2].copy_from_slice(&code.to_le_bytes());
+                mended[pin_bytes(pin)].copy_from_slice(&code.to_le_bytes());
             }
         }
         let refused = slice_refusal(&rules, &slice_record(&mended), n, 2);

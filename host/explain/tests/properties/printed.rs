@@ -5,7 +5,7 @@ use testkit::run::repository;
 
 use crate::files;
 
-/// Lines of at most 160 characters, all to be seen.
+/// Lines of at most 120 characters, all to be seen.
 #[test]
 fn lines_can_be_printed() {
     let mut lines = 0;
@@ -13,7 +13,7 @@ fn lines_can_be_printed() {
         let Explained { faults, note } = explain(&file);
         let printed = faults.iter().map(|fault| fault.to_string());
         for line in printed.chain(note).flat_map(|x| lines_of(&x)) {
-            assert!(line.chars().count() <= 160, "{line}");
+            assert!(line.chars().count() <= 120, "{line}");
             assert!(!line.chars().any(char::is_control), "{line:?}");
             assert!(!line.trim().is_empty() && !line.ends_with(' '), "{line:?}");
             lines += 1;
