@@ -8,18 +8,17 @@ use export::bench::MOST_CLOCKS;
 
 /// Judges slice files of paper-pattern cutters, explains what is wrong with one, shows and writes them as text, and runs them.
 ///
-/// FILE is a slice file, or `-` for standard input. Where a design is run, shown, compared or exported it may be a text as well.
+/// FILE is a slice file, or `-` for standard input. But for judge, which takes bytes as they are, it may be a text as well.
 /// Verdicts, values and states are those of the proved library.
 #[derive(Parser)]
 #[command(name = "quagmuffin", version, after_help = STATUSES)]
-#[command(disable_help_subcommand = true)]
 pub struct Cli {
     #[command(subcommand)]
     pub command: Command,
 }
 
 const STATUSES: &str =
-    "The exit status is 0, or 1 for a refused file (diff: for two that differ), or 2 where the command can't do what it was asked, which it says.
+    "The exit status is 0; or 1 where the file is refused that was judged, explained, written, run or exported, and where two files differ; or 2 where the command can't do what it was asked, which it says.
 
 README.md has a tour, docs/TEXT.md the text form.";
 
@@ -33,10 +32,10 @@ pub enum Command {
     },
     /// Say in words what is wrong with a file, and where: every fault, the judge's first
     Explain {
-        /// A slice file
+        /// A slice file or a text
         file: PathBuf,
     },
-    /// Write a design as text, also where it is refused 5, 6, 7 or 9
+    /// Write a design as text, accepted or not
     Show {
         /// A slice file or a text
         file: PathBuf,
@@ -81,11 +80,20 @@ pub enum Command {
 #[derive(Args)]
 pub struct Stimulus {
     /// So many clocks, 1 to 1000000 [default: one for each line of inputs, or 10]
-    #[arg(long, value_name = "K", value_parser = clap::value_parser!(u32).range(1..=MOST_CLOCKS as i64))]
-    pub clocks: Option<u32>,
+    #[arg(long, value_name = "K", value_parser = clocks)]
+    pub clocks: Option<usize>,
     /// The outside inputs, a line of digits 0 and 1 for each clock, the last one held; a first line such as `inputs step in3` names those that are given
     #[arg(long, value_name = "FILE")]
     pub inputs: Option<PathBuf>,
+}
+
+/// A number of clocks.
+fn clocks(word: &str) -> Result<usize, String> {
+    let clocks = word
+        .parse()
+        .ok()
+        .filter(|clocks| (1..=MOST_CLOCKS).contains(clocks));
+    clocks.ok_or(format!("a number from 1 to {MOST_CLOCKS} is due"))
 }
 
 #[derive(Args)]

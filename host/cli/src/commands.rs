@@ -10,7 +10,7 @@ use crate::args::Stimulus;
 use crate::failure::{name, Failure, Outcome};
 use crate::output::{say, Used};
 use crate::run::inputs::Inputs;
-use crate::source;
+use crate::source::{self, Design};
 
 /// The program's line for a file, and the exit status that is its verdict.
 fn verdict(file: &[u8]) -> (String, u8) {
@@ -40,9 +40,9 @@ pub fn judge_files(paths: &[PathBuf]) -> Outcome<u8> {
     Ok(worst)
 }
 
-/// The verdict is the library's; the second program words it, and has to agree.
+/// The verdict is the library's; the second program words it, and has to agree. Of a text the slice file is explained that it makes.
 pub fn explain_file(path: &Path) -> Outcome<u8> {
-    let file = source::slice_file(path)?;
+    let Design { name, file, .. } = source::design(path)?;
     let (line, status) = verdict(&file);
     let Explained { faults, note } = explain::explain(&file);
     let (count, worded) = match &faults[..] {
@@ -50,7 +50,6 @@ pub fn explain_file(path: &Path) -> Outcome<u8> {
         [first] => ("one fault".to_string(), Some(first)),
         [first, ..] => (format!("{} faults", faults.len()), Some(first)),
     };
-    let name = name(path);
     let refused = |fault: &Fault| Refused {
         number: fault.number,
         place: fault.place as u64,
@@ -71,17 +70,18 @@ pub fn explain_file(path: &Path) -> Outcome<u8> {
 
 /// Bytes of a long file that were left alone: none of them changes the verdict.
 fn rest(file: &[u8]) -> Option<String> {
-    let most = source::deciding();
+    let most = source::MOST_BYTES;
     (file.len() == most).then(|| format!("Only the first {most} bytes were looked at."))
 }
 
-/// Of a text the judge can only say that it is no slice file.
+/// Something that begins like a text and is none.
 fn hint(file: &[u8]) -> Option<String> {
-    source::is_text(file)
-        .then(|| "This looks like a text: quagmuffin write makes a slice file of it.".to_string())
+    let zero = file.iter().position(|&byte| byte == 0)?;
+    let hint = format!("It begins like a text, but byte {zero} is zero: a text is UTF-8.");
+    source::begins_like_text(file).then_some(hint)
 }
 
-/// A refused design has its verdict in a comment.
+/// A design is shown whether it is accepted or not.
 pub fn show(path: &Path, slice: Option<usize>) -> Outcome<u8> {
     let design = source::design(path)?;
     let records = design.records()?;
@@ -94,11 +94,7 @@ pub fn show(path: &Path, slice: Option<usize>) -> Outcome<u8> {
             ))
         })?,
     };
-    let comment = match verdict(&design.file) {
-        (_, 0) => String::new(),
-        (line, _) => format!("# {line}; quagmuffin explain says why\n"),
-    };
-    say(comment + &shown)?;
+    say(shown)?;
     Ok(0)
 }
 
@@ -106,7 +102,7 @@ pub fn show(path: &Path, slice: Option<usize>) -> Outcome<u8> {
 pub fn write(text: &Path, output: &Path) -> Outcome<u8> {
     let file = source::text(text)?.records.bytes();
     let (line, status) = verdict(&file);
-    let mut sink = Used::by_reading([text]).create(output)?;
+    let mut sink = Used::by_reading([text]).open(output)?;
     sink.write(&file)?;
     sink.flush()?;
     if output.as_os_str() != "-" {

@@ -1,7 +1,7 @@
 //! Where a command writes: standard output, or a file that it doesn't read.
 
 use std::fs::{metadata, File};
-use std::io::{stdout, BufWriter, Write};
+use std::io::{self, stdout, BufWriter, Write};
 use std::mem::replace;
 use std::os::unix::fs::MetadataExt;
 use std::path::Path;
@@ -12,6 +12,8 @@ use crate::failure::{name, Failure, Outcome};
 pub struct Sink {
     name: String,
     to: BufWriter<Box<dyn Write>>,
+    /// The file as long as it holds what it held before.
+    old: Option<File>,
 }
 
 impl Sink {
@@ -19,11 +21,14 @@ impl Sink {
         Sink {
             name: "standard output".to_string(),
             to: BufWriter::new(Box::new(stdout())),
+            old: None,
         }
     }
 
+    /// The first text takes the place of what was there.
     pub fn write(&mut self, text: impl AsRef<[u8]>) -> Outcome<()> {
-        let written = self.to.write_all(text.as_ref());
+        let emptied = self.old.take().map_or(Ok(()), |file| file.set_len(0));
+        let written = emptied.and_then(|()| self.to.write_all(text.as_ref()));
         written.map_err(|error| Failure::io(&self.name, &error))
     }
 
@@ -55,8 +60,8 @@ impl Used {
         }
     }
 
-    /// Makes the file of a path anew; `-` is standard output.
-    pub fn create(&mut self, path: &Path) -> Outcome<Sink> {
+    /// Opens the file of a path, which is made where there is none; `-` is standard output.
+    pub fn open(&mut self, path: &Path) -> Outcome<Sink> {
         if path.as_os_str() == "-" {
             return match replace(&mut self.standard_output, true) {
                 true => Err(Failure::of("standard output can't be written twice")),
@@ -67,10 +72,22 @@ impl Used {
         if identity(path).is_some_and(|file| self.files.contains(&file)) {
             return Err(Failure::of(format!("{name}: is read or written already")));
         }
-        let file = File::create(path).map_err(|error| Failure::io(&name, &error))?;
-        self.files.extend(identity(path));
+        let failure = |error: io::Error| Failure::io(&name, &error);
+        let options = File::options()
+            .write(true)
+            .create(true)
+            .truncate(false)
+            .clone();
+        let file = options.open(path).map_err(failure)?;
+        let old = match identity(path) {
+            Some(used) => {
+                self.files.push(used);
+                Some(file.try_clone().map_err(failure)?)
+            }
+            None => None,
+        };
         let to = BufWriter::new(Box::new(file) as Box<dyn Write>);
-        Ok(Sink { name, to })
+        Ok(Sink { name, to, old })
     }
 }
 

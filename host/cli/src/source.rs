@@ -14,6 +14,9 @@ use crate::failure::{name, Failure, Outcome};
 /// No text of a design or of edits is longer; that of 255 slices with every field has a third of it.
 pub const LONGEST_TEXT: usize = 1 << 20;
 
+/// No byte after these changes what is said of a file.
+pub const MOST_BYTES: usize = LONGEST_TEXT + 1;
+
 /// A design: its name, its slice file, and the names that its text gives.
 pub struct Design {
     pub name: String,
@@ -21,14 +24,9 @@ pub struct Design {
     pub names: Vec<Name>,
 }
 
-/// One byte more than the longest file has whose records are in order: no byte after these changes a verdict.
-pub fn deciding() -> usize {
-    text::records::longest() + 1
-}
-
-/// A file as far as it decides.
+/// A file as it is, as far as it decides.
 pub fn slice_file(path: &Path) -> Outcome<Vec<u8>> {
-    bytes(path, deciding())
+    bytes(path, MOST_BYTES)
 }
 
 /// Whether standard input was read.
@@ -55,11 +53,10 @@ fn open(path: &Path) -> io::Result<File> {
 
 /// A text of any kind, of at most so many bytes.
 pub fn any_text(path: &Path, most: usize) -> Outcome<String> {
-    decoded(path, bytes(path, most + 1)?, most)
+    decoded(&name(path), bytes(path, most + 1)?, most)
 }
 
-fn decoded(path: &Path, bytes: Vec<u8>, most: usize) -> Outcome<String> {
-    let name = name(path);
+fn decoded(name: &str, bytes: Vec<u8>, most: usize) -> Outcome<String> {
     if bytes.len() > most {
         return Err(Failure::of(format!("{name}: longer than {most} bytes")));
     }
@@ -68,20 +65,25 @@ fn decoded(path: &Path, bytes: Vec<u8>, most: usize) -> Outcome<String> {
             "{name}: a binary file, no text; quagmuffin show writes a slice file as text"
         )));
     }
-    let no_text = |error: std::string::FromUtf8Error| {
-        let place = error.utf8_error().valid_up_to();
-        Failure::of(format!("{name}: no text: byte {place} is not UTF-8"))
-    };
-    String::from_utf8(bytes).map_err(no_text)
+    String::from_utf8(bytes).map_err(|error| {
+        let good = &error.as_bytes()[..error.utf8_error().valid_up_to()];
+        let good = String::from_utf8_lossy(good);
+        let line = 1 + good.matches('\n').count();
+        let column = 1 + good.chars().rev().take_while(|&x| x != '\n').count();
+        let byte = error.as_bytes()[good.len()];
+        Failure::of(format!(
+            "{name}:{line}:{column}: byte {byte:#x} is not UTF-8"
+        ))
+    })
 }
 
 /// A text of a design.
 pub fn text(path: &Path) -> Outcome<Parsed> {
-    parsed(path, any_text(path, LONGEST_TEXT)?)
+    parsed(&name(path), any_text(path, LONGEST_TEXT)?)
 }
 
-fn parsed(path: &Path, text: String) -> Outcome<Parsed> {
-    text::parse(&text).map_err(|mistake| mistaken(&name(path), &text, &mistake))
+fn parsed(name: &str, text: String) -> Outcome<Parsed> {
+    text::parse(&text).map_err(|mistake| mistaken(name, &text, &mistake))
 }
 
 /// A mistake in a text.
@@ -89,21 +91,21 @@ pub fn mistaken(name: &str, text: &str, mistake: &Mistake) -> Failure {
     Failure::of(mistake.report(name, text))
 }
 
-/// Whether a file is a text: a slice file begins with a small number and has zeros, and a text has neither.
-pub fn is_text(file: &[u8]) -> bool {
+/// A slice file begins with a small number.
+pub fn begins_like_text(file: &[u8]) -> bool {
     let begins = |&first: &u8| first >= b' ' || first.is_ascii_whitespace();
-    file.first().is_some_and(begins) && !file.contains(&0)
+    file.first().is_some_and(begins)
 }
 
-/// A design, as a slice file or as a text.
+/// A design, as a slice file or as a text, in which no byte is zero.
 pub fn design(path: &Path) -> Outcome<Design> {
     let name = name(path);
-    let file = bytes(path, LONGEST_TEXT + 1)?;
-    if !is_text(&file) {
+    let file = bytes(path, MOST_BYTES)?;
+    if !begins_like_text(&file) || file.contains(&0) {
         let names = vec![];
         return Ok(Design { name, file, names });
     }
-    let Parsed { records, names } = parsed(path, decoded(path, file, LONGEST_TEXT)?)?;
+    let Parsed { records, names } = parsed(&name, decoded(&name, file, LONGEST_TEXT)?)?;
     let file = records.bytes();
     Ok(Design { name, file, names })
 }

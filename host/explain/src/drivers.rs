@@ -43,13 +43,14 @@ fn may(n: usize, m: usize) -> String {
             format!("{INPUT_CODES} to {last} (in 0 to in {}); ", m - 1)
         }
     };
-    let outputs = below(usize::from(SLICE_OUTPUTS));
+    let k = below(usize::from(SLICE_OUTPUTS));
+    let outputs = format!("for output k ({k}: A.O6 to D.O6, AMUX to DMUX, AQ to DQ)");
     let outputs = match n {
-        1 => format!("{OUTPUT_CODES} + k for output k ({outputs}) of slice 0"),
-        _ => format!(
-            "{OUTPUT_CODES} + {SLICE_CODES}s + k for output k ({outputs}) of slice s ({})",
-            below(n)
-        ),
+        1 => format!("{OUTPUT_CODES} + k {outputs} of slice 0"),
+        _ => {
+            let slices = below(n);
+            format!("{OUTPUT_CODES} + {SLICE_CODES}s + k {outputs} of slice s ({slices})")
+        }
     };
     format!("0 or 1; {inputs}{outputs}")
 }

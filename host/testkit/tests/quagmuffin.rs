@@ -290,7 +290,7 @@ fn without_rt_or_cargo() {
 #[test]
 fn help_while_there_is_no_program() {
     let copy = replica("help");
-    for word in ["--help", "-h"] {
+    for word in ["--help", "-h", "help"] {
         let output = run(&copy, &[word]);
         let text = String::from_utf8_lossy(&output.stdout).into_owned();
         assert!(text.starts_with("usage: quagmuffin COMMAND "), "{text}");

@@ -46,9 +46,14 @@ impl Mistake {
     }
 }
 
-/// A text without characters that move the cursor.
+/// A text with a space for each character that is not seen or that moves others.
 pub fn plain(text: &str) -> String {
-    text.replace(char::is_control, " ")
+    text.replace(|x| !is_seen(x), " ")
+}
+
+/// Whether a character is one that a reader sees.
+fn is_seen(x: char) -> bool {
+    x.escape_debug().len() == 1 || matches!(x, '\'' | '"' | '\\')
 }
 
 /// A word or a symbol, with the column where it begins.
@@ -56,6 +61,16 @@ pub fn plain(text: &str) -> String {
 struct Token<'a> {
     text: &'a str,
     column: usize,
+}
+
+impl Token<'_> {
+    /// The text as far as it is short, or the number of a character that isn't seen.
+    fn shown(&self) -> String {
+        match self.text.chars().next() {
+            Some(x) if !is_seen(x) => format!("U+{:04X}", u32::from(x)),
+            _ => self.text.chars().take(SHOWN / 4).collect(),
+        }
+    }
 }
 
 /// Expressions may stand in each other up to this depth.
@@ -159,13 +174,8 @@ impl<'a> Line<'a> {
     pub fn mistake(&self, message: &str) -> Mistake {
         let (column, width, found) = match self.tokens.get(self.read) {
             Some(token) => {
-                let found: String = token.text.chars().take(SHOWN / 4).collect();
-                let found = plain(&found);
-                (
-                    token.column,
-                    token.text.chars().count(),
-                    format!("`{found}`"),
-                )
+                let width = token.text.chars().count();
+                (token.column, width, format!("`{}`", token.shown()))
             }
             None => (self.end, 1, "the line ends here".to_string()),
         };

@@ -2,6 +2,7 @@
 
 use std::collections::HashMap;
 
+use model::design::SIGNALS;
 use model::layout::SLICE_BODY;
 
 use crate::contents;
@@ -43,24 +44,14 @@ pub fn parse(text: &str) -> Result<Parsed, Mistake> {
         current: None,
         seen: HashMap::new(),
         names: vec![],
+        named: vec![],
     };
     for line in lines(text) {
         let mut line = line?;
         reader.statement(&mut line)?;
         line.ended()?;
     }
-    let [Some(n), m] = reader.size else {
-        return Err(Mistake::of_all(
-            "no line says how many slices there are, as `slices 2` does",
-        ));
-    };
-    let records = Records {
-        n,
-        m: m.unwrap_or(0),
-        slices: reader.slices,
-    };
-    let names = reader.names;
-    Ok(Parsed { records, names })
+    reader.finish()
 }
 
 struct Reader {
@@ -73,9 +64,32 @@ struct Reader {
     /// The line on which something was said that is said once.
     seen: HashMap<String, usize>,
     names: Vec<Name>,
+    /// The wires that have a name, each with what to say where the column doesn't have it.
+    named: Vec<(Wire, Mistake)>,
 }
 
 impl Reader {
+    fn finish(self) -> Result<Parsed, Mistake> {
+        let [Some(n), m] = self.size else {
+            return Err(Mistake::of_all(
+                "no line says how many slices there are, as `slices 2` does",
+            ));
+        };
+        let m = m.unwrap_or(0);
+        let is_missing = |wire: Wire| match wire {
+            Wire::Input(input) => input >= usize::from(m),
+            Wire::Signal(signal) => signal >= SIGNALS * usize::from(n),
+        };
+        if let Some((_, mistake)) = self.named.into_iter().find(|(wire, _)| is_missing(*wire)) {
+            return Err(mistake);
+        }
+        let slices = self.slices;
+        Ok(Parsed {
+            records: Records { n, m, slices },
+            names: self.names,
+        })
+    }
+
     fn statement(&mut self, line: &mut Line) -> Result<(), Mistake> {
         match line.peek() {
             Some("slices") => self.size(line, 0),
@@ -134,7 +148,7 @@ impl Reader {
         let word = line.peek().unwrap_or_default();
         if !is_name(word) {
             let kept = KEPT.join(", ");
-            return Err(line.mistake(&format!("a name is a word of small letters, digits and _ that begins with a letter, and not in3 or one of {kept}")));
+            return Err(line.mistake(&format!("a name is a word of small letters, digits and _ that begins with a letter, and not s0, in3 or one of {kept}")));
         }
         self.once(line, format!("name {word}"))?;
         line.skip();
@@ -142,12 +156,15 @@ impl Reader {
             return Err(line.mistake("a `=` is due, as in `name step = in 0`"));
         }
         let signed = line.take("signed");
-        let mut wires = vec![wire(line, &self.names)?];
-        while line.peek().is_some() {
+        let mut wires = vec![];
+        while wires.is_empty() || line.peek().is_some() {
             if wires.len() == MOST_WIRES {
                 return Err(line.mistake(&format!("a name has at most {MOST_WIRES} wires")));
             }
-            wires.push(wire(line, &self.names)?);
+            let missing = line.mistake("the column doesn't have it");
+            let due = "an input (`in 3`), a signal (`s0.AQ`) or a name given before is due";
+            wires.push(wire(line, &self.names, due)?);
+            self.named.extend(wires.last().map(|&wire| (wire, missing)));
         }
         let word = word.to_string();
         self.names.push(Name {
@@ -183,9 +200,11 @@ impl Reader {
 fn is_name(word: &str) -> bool {
     let lowercase = |x: char| x.is_ascii_lowercase() || x.is_ascii_digit() || x == '_';
     let begins = word.starts_with(|x: char| x.is_ascii_lowercase());
-    let digits = word.strip_prefix("in").unwrap_or("x");
-    let is_input = digits.bytes().all(|x| x.is_ascii_digit());
-    let is_taken = KEPT.contains(&word) || is_input;
+    let is_numbered = |start| {
+        let digits = word.strip_prefix(start).unwrap_or("x");
+        digits.bytes().all(|x| x.is_ascii_digit())
+    };
+    let is_taken = KEPT.contains(&word) || is_numbered("in") || is_numbered("s");
     begins && word.chars().all(lowercase) && !is_taken
 }
 
@@ -230,13 +249,13 @@ fn driver(line: &mut Line, names: &Names) -> Result<u16, Mistake> {
             return Ok(code);
         }
     }
-    let before = line.mistake("a pin is driven by 0, 1, an input (`in 3`) or an output of a slice: O6, MUX or Q (`s0.A.O6`, `s0.AMUX`, `s0.AQ`)");
-    let wire = wire(line, names)?;
-    names::code_of(wire).ok_or(before)
+    let due = "0, 1, `code 7`, an input (`in 3`), an output of a slice (`s0.A.O6`, `s0.AMUX`, `s0.AQ`) or a name of one is due";
+    let no_driver = line.mistake(due);
+    names::code_of(wire(line, names, due)?).ok_or(no_driver)
 }
 
 /// `in 3`, `in3`, `s0.AQ`, or a name given before that stands for one wire.
-fn wire(line: &mut Line, names: &Names) -> Result<Wire, Mistake> {
+fn wire(line: &mut Line, names: &Names, due: &str) -> Result<Wire, Mistake> {
     if line.take("in") {
         return Ok(Wire::Input(line.number(names::LAST_INPUT)?));
     }
@@ -248,29 +267,25 @@ fn wire(line: &mut Line, names: &Names) -> Result<Wire, Mistake> {
         },
         None => names::wire_named(word),
     };
-    let wire = wire.ok_or(
-        line.mistake("an input (`in 3`), a signal (`s0.AQ`) or a name given before is due"),
-    )?;
+    let wire = wire.ok_or_else(|| line.mistake(due))?;
     line.skip();
     Ok(wire)
 }
 
 /// One of m outside inputs, by name or by number.
-pub fn input(line: &mut Line, names: &Names, m: usize) -> Result<usize, Mistake> {
-    let here = line.mistake(&format!(
-        "no outside input by that name; there are {m}, by name or number"
-    ));
+pub fn input(line: &mut Line, names: &Names, m: usize, due: &str) -> Result<usize, Mistake> {
+    let no_input = line.mistake(due);
     let number = line.peek().and_then(names::number).map(Wire::Input);
     let wire = match number {
         Some(wire) => {
             line.skip();
             wire
         }
-        None => wire(line, names)?,
+        None => wire(line, names, due)?,
     };
     match wire {
         Wire::Input(input) if input < m => Ok(input),
-        _ => Err(here),
+        _ => Err(no_input),
     }
 }
 

@@ -11,11 +11,6 @@ pub struct Records {
     pub slices: Vec<[u8; SLICE_BODY]>,
 }
 
-/// The longest file that has records in order: n is one byte.
-pub fn longest() -> usize {
-    file_length(usize::from(u8::MAX))
-}
-
 impl Records {
     /// n slices of zeros but for their numbers.
     pub fn zeros(n: u8, m: u8) -> Records {

@@ -211,6 +211,19 @@ fn mistakes_are_placed() {
             "2:1+5 `slice`: the column has no slices",
         ),
         ("name far = in3840", "1:12+6 `in3840`: an input"),
+        ("name s12 = in 0", "1:6+3 `s12`: a name is"),
+        (
+            "slices 1\nname far = s1.AQ",
+            "2:12+5 `s1.AQ`: the column doesn't have it",
+        ),
+        (
+            "name far = in0\nslices 1",
+            "1:12+3 `in0`: the column doesn't have it",
+        ),
+        (
+            "slices 1\n\u{200b}slice 0",
+            "2:1+1 `U+200B`: no line begins so",
+        ),
         ("name step in 0", "1:11+2 `in`: a `=` is due"),
         (
             "name a = in 0\nname a = in 1",
@@ -234,13 +247,16 @@ fn mistakes_in_a_slice() {
     for (line, expected) in [
         ("slice 0", "7+1 `0`: line 2 has said this"),
         ("  A7 = 1", "3+2 `A7`: no line begins so"),
-        ("A1 = 2", "6+1 `2`: an input (`in 3`), a signal"),
+        (
+            "A1 = 2",
+            "6+1 `2`: 0, 1, `code 7`, an input (`in 3`), an output",
+        ),
         ("A1 = in 3840", "9+4 `3840`: a number from 0 to 3839"),
-        ("A1 = s0.A.sum", "6+8 `s0.A.sum`: a pin is driven by 0, 1"),
-        ("A1 = s9999.AQ", "6+8 `s9999.AQ`: an input"),
+        ("A1 = s0.A.sum", "6+8 `s0.A.sum`: 0, 1, `code 7`, an input"),
+        ("A1 = s9999.AQ", "6+8 `s9999.AQ`: 0, 1, `code 7`"),
         ("A1 = code 65536", "11+5 `65536`: a number from 0 to 65535"),
-        ("A1 = step", "6+4 `step`: an input"),
-        ("A1 =", "5+1 the line ends here: an input"),
+        ("A1 = step", "6+4 `step`: 0, 1, `code 7`"),
+        ("A1 =", "5+1 the line ends here: 0, 1, `code 7`"),
         (
             "A mode shft",
             "8+4 `shft`: logic, memory, shift or `choice 7`",
@@ -281,6 +297,13 @@ fn mistakes_are_marked() {
   4 |  A mode shft # oh
     |         ^^^^";
     assert_eq!(report, expected);
+    // Just past the end of what is shown there is a mark as well.
+    let full = format!("slices 1\nslice 0\nA = {}", "!".repeat(116));
+    let report = parse(&full).expect_err("a mistake").report("file", &full);
+    assert!(
+        report.ends_with(&format!("| {}^", " ".repeat(120))),
+        "{report}"
+    );
     let empty = parse("\n").expect_err("a mistake").report("file", "\n");
     let expected = "file: no line says how many slices there are, as `slices 2` does";
     assert_eq!(empty, expected);

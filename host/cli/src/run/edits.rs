@@ -1,14 +1,15 @@
 //! Edits before clocks of a run.
 
 use model::layout::LETTERS;
-use quagmuffin::{Accepted, Answer, Column, Refused};
+use quagmuffin::{Answer, Column};
+use text::contents;
 use text::lines::{lines, Line, Mistake};
 use text::names::table_named;
 use text::parse::input;
 use text::Names;
 
 use crate::args::Run;
-use crate::failure::{name, Failure, Outcome};
+use crate::failure::{name, Outcome};
 use crate::source::{self, LONGEST_TEXT};
 
 /// What an edit changes, and to what.
@@ -18,45 +19,41 @@ enum Change {
     Table(usize, u64),
 }
 
-/// A change before a clock, and the words that say it.
-#[derive(Clone, Debug, PartialEq)]
+/// A change before a clock.
+#[derive(Clone, Copy, Debug, PartialEq)]
 pub struct Edit {
     clock: usize,
     change: Change,
-    text: String,
 }
 
-/// What an edit can speak of: the names of the text, the column's inputs and tables, the clocks of the run.
-struct Scope<'a> {
-    names: &'a Names,
-    size: Accepted,
-    clocks: usize,
+impl Edit {
+    /// Makes it by the library's call.
+    pub fn make(&self, column: &mut Column) -> Answer {
+        match self.change {
+            Change::Input(input, byte) => column.edit_input(input, byte),
+            Change::Table(table, word) => column.edit_table(table, word),
+        }
+    }
 }
 
 /// The edits of a run, by their clocks.
 pub struct Edits(Vec<Edit>);
 
 impl Edits {
-    /// Those of the words, then those of the file. They are tried on a copy of the column: what the library refuses is told before the run.
+    /// Those of the words, then those of the file.
     pub fn read(words: &Run, names: &Names, column: &Column, clocks: usize) -> Outcome<Edits> {
-        let size = column.size();
-        let scope = Scope {
+        let reader = Reader {
             names,
-            size,
+            column,
             clocks,
         };
         let mut edits = vec![];
         for text in &words.edit {
-            edits.extend(parse("--edit", text, &scope)?);
+            edits.extend(reader.edits("--edit", text)?);
         }
         if let Some(path) = &words.edits {
             let text = source::any_text(path, LONGEST_TEXT)?;
-            edits.extend(parse(&name(path), &text, &scope)?);
-        }
-        let mut copy = column.clone();
-        for edit in &edits {
-            edit.make(&mut copy)
-                .map_err(|refused| edit.refused(refused))?;
+            edits.extend(reader.edits(&name(path), &text)?);
         }
         edits.sort_by_key(|edit| edit.clock);
         Ok(Edits(edits))
@@ -70,58 +67,61 @@ impl Edits {
     }
 }
 
-impl Edit {
-    /// Makes it by the library's call.
-    pub fn make(&self, column: &mut Column) -> Answer {
-        match self.change {
-            Change::Input(input, byte) => column.edit_input(input, byte),
-            Change::Table(table, word) => column.edit_table(table, word),
-        }
-    }
-
-    /// All else was looked at when the words were read.
-    fn refused(&self, refused: Refused) -> Failure {
-        let text = &self.text;
-        Failure::of(format!(
-            "{text}: {refused}: in shift mode a table holds 32 bits"
-        ))
-    }
+/// What an edit can speak of: the names of the text, the column's inputs and tables, the clocks of the run.
+struct Reader<'a> {
+    names: &'a Names,
+    column: &'a Column,
+    clocks: usize,
 }
 
-/// An edit on each line of a text.
-fn parse(name: &str, text: &str, scope: &Scope) -> Outcome<Vec<Edit>> {
-    let edits = lines(text).map(|line| edit(&mut line?, scope));
-    let edits: Result<_, _> = edits.collect();
-    edits.map_err(|mistake| source::mistaken(name, text, &mistake))
-}
+impl Reader<'_> {
+    /// An edit on each line of a text.
+    fn edits(&self, name: &str, text: &str) -> Outcome<Vec<Edit>> {
+        let edits = lines(text).map(|line| self.edit(&mut line?));
+        let edits: Result<_, _> = edits.collect();
+        edits.map_err(|mistake| source::mistaken(name, text, &mistake))
+    }
 
-/// `3: in 0 = 1` or `8: s0.A = A1 & A2`.
-fn edit(line: &mut Line, scope: &Scope) -> Result<Edit, Mistake> {
-    let clock = line.number(scope.clocks - 1)?;
-    due(line, ":")?;
-    let table = line
-        .peek()
-        .and_then(table_named)
-        .filter(|&table| table < scope.size.tables());
-    let change = match table {
-        Some(table) => {
-            line.skip();
-            due(line, "=")?;
-            Change::Table(table, text::contents::parse(line, table % LETTERS.len())?)
+    /// `3: in 0 = 1` or `8: s0.A = A1 & A2`.
+    fn edit(&self, line: &mut Line) -> Result<Edit, Mistake> {
+        let clocks = self.clocks;
+        let no_clock = line.mistake(&format!(
+            "a clock below {clocks} is due, since the run has {clocks}"
+        ));
+        let clock = line.number(clocks - 1).map_err(|_| no_clock)?;
+        due(line, ":")?;
+        let size = self.column.size();
+        let table = line.peek().and_then(table_named);
+        let change = match table.filter(|&table| table < size.tables()) {
+            Some(table) => {
+                line.skip();
+                due(line, "=")?;
+                self.table(line, table)?
+            }
+            None => {
+                let what = format!(
+                    "a table of the column (`s0.A`) or one of its {} inputs (`in 0`) is due",
+                    size.m
+                );
+                let input = input(line, self.names, size.m, &what)?;
+                due(line, "=")?;
+                Change::Input(input, line.number(1)? as u8)
+            }
+        };
+        line.ended()?;
+        Ok(Edit { clock, change })
+    }
+
+    /// New contents. Those that a table in shift mode can't hold are tried on a copy of the column: what the library refuses is told before the run.
+    fn table(&self, line: &mut Line, table: usize) -> Result<Change, Mistake> {
+        let here = line.mistake("refused 11 0: in shift mode a table holds 32 bits");
+        let word = contents::parse(line, table % LETTERS.len())?;
+        let tried = || self.column.clone().edit_table(table, word);
+        match word >> 32 == 0 || tried().is_ok() {
+            true => Ok(Change::Table(table, word)),
+            false => Err(here),
         }
-        None => {
-            let input = input(line, scope.names, scope.size.m)?;
-            due(line, "=")?;
-            Change::Input(input, line.number(1)? as u8)
-        }
-    };
-    line.ended()?;
-    let text = line.text.to_string();
-    Ok(Edit {
-        clock,
-        change,
-        text,
-    })
+    }
 }
 
 fn due(line: &mut Line, symbol: &str) -> Result<(), Mistake> {

@@ -36,7 +36,7 @@ impl Inputs {
             }
         };
         let clocks = match (stimulus.clocks, rows.len()) {
-            (Some(clocks), _) => clocks as usize,
+            (Some(clocks), _) => clocks,
             (None, 0) => USUAL_CLOCKS,
             (None, rows) => rows,
         };
@@ -91,12 +91,13 @@ fn parse(text: &str, names: &Names, m: usize) -> Result<(Vec<usize>, Vec<Vec<u8>
 /// `inputs step in3 0`: by name or by number.
 fn header(line: &mut Line, names: &Names, m: usize) -> Result<Vec<usize>, Mistake> {
     line.skip();
+    let due = format!("one of the column's {m} inputs is due, by name or number");
     let mut given = vec![];
     while line.peek().is_some() {
-        let here = line.mistake("this input is given already");
-        let next = input(line, names, m)?;
+        let twice = line.mistake("this input is given already");
+        let next = input(line, names, m, &due)?;
         if given.contains(&next) {
-            return Err(here);
+            return Err(twice);
         }
         given.push(next);
     }

@@ -23,7 +23,6 @@ use inputs::Inputs;
 use progress::Progress;
 use table::Table;
 use vcd::Vcd;
-use watch::Watched;
 
 /// Takes the rows of a run.
 trait Output {
@@ -56,11 +55,8 @@ pub fn run(words: &Run) -> Outcome<u8> {
     Ok(0)
 }
 
-/// The edits before a clock, of a settled table, and the clock.
+/// The edits before a clock, and the clock, which settles the values itself.
 fn clocked(column: &mut Column, edits: &[Edit]) -> Answer {
-    if !edits.is_empty() {
-        column.settle()?;
-    }
     for edit in edits {
         edit.make(column)?;
     }
@@ -74,15 +70,15 @@ fn not_run(clock: usize, refused: Refused) -> Failure {
 
 /// The table, or the files in its place. All are opened before the first is written.
 fn outputs(words: &Run, design: &Design, size: Accepted) -> Outcome<Vec<Box<dyn Output>>> {
-    type Unchosen = fn(&Design, Accepted) -> Outcome<Vec<Watched>>;
-    let watched = |unchosen: Unchosen| match words.watch.is_empty() {
-        true => unchosen(design, size),
-        false => watch::chosen(&words.watch, design, size),
+    let chosen = match words.watch.is_empty() {
+        true => None,
+        false => Some(watch::chosen(&words.watch, design, size)?),
     };
-    let (waves, values) = (watched(watch::all)?, watched(watch::usual)?);
+    let waves = chosen.clone().unwrap_or_else(|| watch::all(design, size));
+    let values = chosen.map_or_else(|| watch::usual(design, size), Ok)?;
     let mut used = Used::by_reading(words.read_files());
-    let mut create = |path: Option<&Path>| path.map(|path| used.create(path)).transpose();
-    let (vcd, csv) = (create(words.vcd.as_deref())?, create(words.csv.as_deref())?);
+    let mut open = |path: Option<&Path>| path.map(|path| used.open(path)).transpose();
+    let (vcd, csv) = (open(words.vcd.as_deref())?, open(words.csv.as_deref())?);
     let mut outputs: Vec<Box<dyn Output>> = vec![];
     if let Some(sink) = vcd {
         outputs.push(Box::new(Vcd::begin(sink, &waves)?));

@@ -1,5 +1,6 @@
-//! Waves in the form that IEEE 1364 calls a value change dump. A clock takes ten nanoseconds, its edge is in the middle; signals change at its start.
-//! Every wave is one bit, since not every reader takes more: a name of several wires has a wave for each, `position[0]` the lowest.
+//! Waves in the form that IEEE 1364 calls a value change dump. A clock takes ten nanoseconds and ends with the edge, at which all signals change.
+//! Every wave is one bit, since not every reader takes more: a name of several wires has a wave for each, `position[0]` the lowest. And since not every
+//! reader shows the scope that a wave stands in, its name has the slice as well.
 
 use quagmuffin::Column;
 use text::names::Wire;
@@ -9,9 +10,9 @@ use super::Output;
 use crate::failure::Outcome;
 use crate::output::Sink;
 
-/// A clock's time, and that of its edge.
+/// A clock's time, and how long after an edge the clock is high.
 const PERIOD: usize = 10;
-const EDGE: usize = 5;
+const HIGH: usize = 5;
 
 /// The clock's own short name.
 const CLK: &str = "!";
@@ -54,36 +55,40 @@ impl Vcd {
 impl Output for Vcd {
     fn row(&mut self, clock: usize, column: &Column) -> Outcome<()> {
         let start = PERIOD * clock;
-        let mut text = format!("#{start}\n0{CLK}\n");
+        let edge = u8::from(clock > 0);
+        let mut text = format!("#{start}\n{edge}{CLK}\n");
         for (place, wave) in self.waves.iter().enumerate() {
             let bit = bit(column, wave.wire);
             if self.before[place].replace(bit) != Some(bit) {
                 text += &format!("{bit}{}\n", short_name(place));
             }
         }
-        text += &format!("#{}\n1{CLK}\n", start + EDGE);
+        if clock > 0 {
+            text += &format!("#{}\n0{CLK}\n", start + HIGH);
+        }
         self.to.write(text)
     }
 
+    /// The last edge.
     fn finish(&mut self, clocks: usize) -> Outcome<()> {
-        self.to.write(format!("#{}\n", PERIOD * clocks))?;
+        self.to.write(format!("#{}\n1{CLK}\n", PERIOD * clocks))?;
         self.to.flush()
     }
 }
 
 /// The waves of what is watched. A signal stands in the scope of its slice; a dot in its name would begin another.
 fn waves(watched: &Watched) -> Vec<Wave> {
-    let title = &watched.title;
-    let wave = |place: usize, wire: Wire| {
-        let (slice, name) = match title.split_once('.') {
-            Some((slice, name)) => (Some(slice.to_string()), name.replace('.', "_")),
-            None if watched.wires.len() == 1 => (None, title.clone()),
-            None => (None, format!("{title}[{place}]")),
-        };
-        Wave { slice, name, wire }
+    let slice = watched.title.split_once('.').map(|(slice, _)| slice);
+    let title = watched.title.replace('.', "_");
+    let wave = |(place, &wire): (usize, &Wire)| Wave {
+        slice: slice.map(str::to_string),
+        name: match watched.wires.len() {
+            1 => title.clone(),
+            _ => format!("{title}[{place}]"),
+        },
+        wire,
     };
-    let wires = watched.wires.iter().enumerate();
-    wires.map(|(place, &wire)| wave(place, wire)).collect()
+    watched.wires.iter().enumerate().map(wave).collect()
 }
 
 fn change_of_scope(from: Option<&str>, to: Option<&str>) -> String {

@@ -65,32 +65,19 @@ fn wires(size: Accepted) -> impl Iterator<Item = Wire> {
     inputs.chain((0..SIGNALS * size.n).map(Wire::Signal))
 }
 
-/// The text's names. They have to name what the column has.
-fn named(design: &Design, size: Accepted) -> Outcome<Vec<Watched>> {
-    let missing = |wire: &&Wire| match **wire {
-        Wire::Input(input) => input >= size.m,
-        Wire::Signal(signal) => signal >= SIGNALS * size.n,
-    };
-    let watched = |name: &Name| match name.wires.iter().find(missing) {
-        Some(&wire) => {
-            let (word, wire) = (&name.word, names::wire(wire));
-            Err(Failure::of(format!(
-                "{}: the name {word} is given to {wire}, and the column has no {wire}",
-                design.name
-            )))
-        }
-        None => Ok(Watched {
-            title: name.word.clone(),
-            wires: name.wires.clone(),
-            signed: name.signed,
-        }),
+/// The text's names.
+fn named(design: &Design) -> Vec<Watched> {
+    let watched = |name: &Name| Watched {
+        title: name.word.clone(),
+        wires: name.wires.clone(),
+        signed: name.signed,
     };
     design.names.iter().map(watched).collect()
 }
 
 /// Without a choice: the text's names or, where it has none, the inputs and the main flip-flops of slices that aren't left at their defaults.
 pub fn usual(design: &Design, size: Accepted) -> Outcome<Vec<Watched>> {
-    let named = named(design, size)?;
+    let named = named(design);
     if !named.is_empty() {
         return Ok(named);
     }
@@ -108,15 +95,15 @@ pub fn usual(design: &Design, size: Accepted) -> Outcome<Vec<Watched>> {
 }
 
 /// Everything: the text's names, the inputs and all signals.
-pub fn all(design: &Design, size: Accepted) -> Outcome<Vec<Watched>> {
-    let mut all = named(design, size)?;
+pub fn all(design: &Design, size: Accepted) -> Vec<Watched> {
+    let mut all = named(design);
     all.extend(wires(size).map(Watched::of));
-    Ok(all)
+    all
 }
 
 /// What is chosen, in the order of the words, nothing twice.
 pub fn chosen(words: &[String], design: &Design, size: Accepted) -> Outcome<Vec<Watched>> {
-    let all = all(design, size)?;
+    let all = all(design, size);
     let mut chosen: Vec<Watched> = vec![];
     for word in words {
         let before = chosen.clone();

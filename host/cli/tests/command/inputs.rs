@@ -42,9 +42,9 @@ fn mistakes() {
         ("inputs up\n1\ninputs up\n", "3:1: `inputs`: a digit 0 or 1"),
         ("inputs up\ninputs 0\n1\n", "2:1: `inputs`: a digit 0 or 1"),
         ("inputs up up\n", "1:11: `up`: this input is given already"),
-        ("inputs 3\n", "1:8: `3`: no outside input by that name; there are 3"),
+        ("inputs 3\n", "1:8: `3`: one of the column's 3 inputs is due"),
         ("inputs low\n", "1:8: `low`: this name stands for more than one"),
-        ("inputs s0.AQ\n", "1:8: `s0.AQ`: no outside input"),
+        ("inputs s0.AQ\n", "1:8: `s0.AQ`: one of the column's 3 inputs is due"),
     ] {
         folder.put("inputs", inputs);
         assert_marks(&folder.run(&WORDS), &format!("quagmuffin: inputs:{said}"));

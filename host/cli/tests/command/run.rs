@@ -44,6 +44,10 @@ fn table_by_hand() {
     assert_writes(&to("out"), 0, "");
     assert_eq!(folder.get("out"), csv.as_bytes());
     assert_eq!(rows(&folder.text(&["run", "file", "--csv", "-"])).len(), 10);
+    // A number can be wider than its name.
+    folder.put("text", "slices 1\nname n = s0.AQ s0.BQ s0.CQ s0.DQ\n");
+    let output = folder.run(&["run", "text", "--clocks", "1"]);
+    assert_writes(&output, 0, "clock    n\n     0   0\n");
 }
 
 /// Edits come after the clock's inputs, in their order, and stay until something else is set.
@@ -82,21 +86,25 @@ fn edits_before_clocks() {
     assert_eq!(folder.text(&words), expected);
 }
 
-/// Wrong edits, each with the column of its mistake.
-const WRONG_EDITS: [(&str, &str); 10] = [
-    ("10: in 0 = 1", "1: `10`: a number from 0 to 9 is due\n"),
-    ("in 0 = 1", "1: `in`: a number from 0 to 9"),
+/// Wrong edits of a run of 10 clocks, each with the column of its mistake.
+const WRONG_EDITS: [(&str, &str); 11] = [
+    (
+        "10: in 0 = 1",
+        "1: `10`: a clock below 10 is due, since the run has 10\n",
+    ),
+    ("in 0 = 1", "1: `in`: a clock below 10"),
     ("1 in 0 = 1", "3: `in`: a `:` is due"),
     (
         "1: in 2 = 1",
-        "4: `in`: no outside input by that name; there are 2",
+        "4: `in`: a table of the column (`s0.A`) or one of its 2 inputs",
     ),
     ("1: in 0 = 2", "11: `2`: a number from 0 to 1 is due\n"),
-    ("1: s1.A = A1", "4: `s1.A`: an input (`in 3`)"),
+    ("1: s1.A = A1", "4: `s1.A`: a table of the column"),
+    ("1: s0.A.O6 = 1", "4: `s0.A.O6`: a table of the column"),
     ("1: s0.A = B1", "11: `B1`: an operand is A1 to A6"),
     ("1: s0.A A1", "9: `A1`: a `=` is due"),
     ("1: in 0 = 1 1", "13: `1`: nothing more"),
-    ("1:", "3: the line ends here: an input"),
+    ("1:", "3: the line ends here: a table of the column"),
 ];
 
 #[test]
@@ -108,10 +116,9 @@ fn wrong_edits() {
     }
     // What only the library can tell is its refusal, before the first row.
     folder.put("shift", "slices 1\nslice 0 SLICEM\nA mode shift\n");
-    let output = folder.run(&["run", "shift", "--edit", "3: s0.A = 0x100000000"]);
-    let said =
-        "quagmuffin: 3: s0.A = 0x100000000: refused 11 0: in shift mode a table holds 32 bits\n";
-    assert_fails(&output, said);
+    folder.put("edits", "0: s0.B = 0x100000000\n3: s0.A = 0x100000000\n");
+    let said = "quagmuffin: edits:2:11: `0x100000000`: refused 11 0: in shift mode a table holds 32 bits\n";
+    assert_marks(&folder.run(&["run", "shift", "--edits", "edits"]), said);
 }
 
 /// It says where a mistake is, shows the line and marks it.
@@ -151,9 +158,11 @@ fn what_is_watched() {
         let why = format!("quagmuffin: --watch: no signal, input or name `{wrong}`; ");
         assert_fails(&folder.run(&["run", "text", "--watch", wrong]), &why);
     }
-    folder.put("text", "slices 1\nname far = s1.AQ\n");
-    let why = "quagmuffin: text: the name far is given to s1.AQ, and the column has no s1.AQ\n";
-    assert_fails(&folder.run(&["run", "text"]), why);
+    // Without names, the inputs and the slices that aren't left at their defaults.
+    folder.put("text", "\n# a text\nslices 2\ninputs 1\nslice 1\nCE = 1\n");
+    let csv = folder.text(&["run", "text", "--csv", "-"]);
+    let titles = "clock,in0,s1.AQ,s1.BQ,s1.CQ,s1.DQ";
+    assert_eq!(csv.lines().next(), Some(titles));
 }
 
 /// No file is written that is read, or twice.
@@ -173,6 +182,15 @@ fn what_is_used_already() {
         }
     }
     assert_eq!(files.map(|name| folder.get(name)), before);
+    // What is there already is kept where the other can't be written.
+    folder.put("old", "old");
+    let output = folder.run(&["run", "file", "--vcd", "old", "--csv", "no/new"]);
+    assert_fails(&output, "quagmuffin: no/new: No such file");
+    assert_eq!(folder.get("old"), b"old");
+    folder.text(&[
+        "run", "file", "--clocks", "1", "--watch", "in0", "--csv", "old",
+    ]);
+    assert_eq!(folder.get("old"), b"clock,in0\n0,0\n");
     let both = |path| folder.run(&["run", "file", "--vcd", path, "--csv", path]);
     assert_fails(
         &both("out"),
@@ -234,8 +252,10 @@ fn progress_on_a_terminal() {
     assert!(long.contains(" of 60000 clocks, "), "{long:?}");
     assert_eq!(in_terminal(&folder, "--clocks 10 --csv out"), "");
     let rows = in_terminal(&folder, "--clocks 60000 --watch s0.AQ --csv -");
+    let row = |clock| format!("{clock},0\r\n");
+    let expected: String = (0..60000).map(row).collect();
     assert!(
-        rows.lines().skip(1).all(|line| line.ends_with(",0")),
+        rows == format!("clock,s0.AQ\r\n{expected}"),
         "rows and more"
     );
     let silent = folder.text(&["run", "large", "--clocks", "60000", "--csv", "out"]);

@@ -13,8 +13,7 @@ fn show_statuses() {
     assert_writes(&folder.run(&["show", "z"]), 0, "slices 1\ninputs 0\n");
     let output = folder.run(&["show", "z", "--slice", "0"]);
     assert_writes(&output, 0, "slice 0 SLICEL\n");
-    let text = "# refused 7 5; quagmuffin explain says why
-slices 1
+    let text = "slices 1
 inputs 0
 
 slice 0 SLICEL

@@ -60,7 +60,8 @@ fn what_cannot_be_read() {
 #[test]
 fn what_is_no_text() {
     let folder = Folder::with_files("no text");
-    folder.put("latin", b"slices 1 # caf\xe9\n");
+    folder.put("latin", b"slices 1\n # caf\xe9\n");
+    let why_latin = "quagmuffin: latin:2:7: byte 0xe9 is not UTF-8\n";
     let readers: [(&[&str], &str); 3] = [
         (&["write", "BAD", "-o", "new"], "1048576"),
         (&["run", "z", "--inputs", "BAD"], "128000000"),
@@ -71,16 +72,16 @@ fn what_is_no_text() {
         for (bad, why) in [
             ("z", "quagmuffin: z: a binary file, no text; "),
             ("/dev/zero", &long),
-            (
-                "latin",
-                "quagmuffin: latin: no text: byte 14 is not UTF-8\n",
-            ),
+            ("latin", why_latin),
         ] {
             assert_fails(&folder.run(&words_with(words, bad)), why);
         }
     }
-    let output = folder.run(&["run", "latin"]);
-    assert_fails(&output, "quagmuffin: latin: no text: byte 14");
+    assert_fails(&folder.run(&["run", "latin"]), why_latin);
+    // With a zero in it, it is taken for a slice file.
+    folder.put("zero", b"slices 1\0");
+    let line = "quagmuffin: zero: refused 2 0; quagmuffin explain says why\n";
+    assert_says(&folder.run(&["run", "zero"]), 1, line);
 }
 
 #[test]

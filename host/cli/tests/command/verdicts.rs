@@ -7,6 +7,7 @@ use testkit::random;
 use testkit::run::run;
 
 use crate::folder::{written, Folder};
+use crate::run::assert_marks;
 
 #[test]
 fn judge_statuses() {
@@ -88,21 +89,40 @@ fn explain_statuses() {
     }
 }
 
-/// A text is no slice file, and of a long file not all is looked at: that is said.
+/// A text is explained as the slice file that it makes.
+#[test]
+fn explain_takes_a_text() {
+    let folder = Folder::new("explain text");
+    folder.put("text", "slices 2\nslice 1\nB1 = s0.A.O6\nB2 = s1.B.O6\n");
+    let text = written(&folder.run(&["explain", "text"]), 1);
+    assert!(
+        text.starts_with("text: refused 9 33: one fault\n"),
+        "{text}"
+    );
+    assert!(text.contains("  s1.B.O6 <- B2 <- s1.B.O6\n"), "{text}");
+    folder.put("text", "slices 2\nslice 2\n");
+    let output = folder.run(&["explain", "text"]);
+    assert_marks(
+        &output,
+        "quagmuffin: text:2:7: `2`: a number from 0 to 1 is due\n",
+    );
+}
+
+/// What begins like a text and is none, and a file of which not all is looked at.
 #[test]
 fn explain_says_what_it_was_given() {
     let folder = Folder::new("explain given");
-    folder.put("text", "slices 1\n");
-    let text = written(&folder.run(&["explain", "text"]), 1);
-    assert!(text.starts_with("text: refused 2 0: "), "{text}");
+    folder.put("wide", b"s\0l\0i\0c\0e\0s\0");
+    let text = written(&folder.run(&["explain", "wide"]), 1);
+    assert!(text.starts_with("wide: refused 2 0: "), "{text}");
     assert!(
-        text.ends_with("\nThis looks like a text: quagmuffin write makes a slice file of it.\n"),
+        text.ends_with("\nIt begins like a text, but byte 1 is zero: a text is UTF-8.\n"),
         "{text}"
     );
     let text = written(&folder.run(&["explain", "/dev/zero"]), 1);
     assert!(text.starts_with("/dev/zero: refused 2 0: "), "{text}");
     assert!(
-        text.ends_with("\nOnly the first 32394 bytes were looked at.\n"),
+        text.ends_with("\nOnly the first 1048577 bytes were looked at.\n"),
         "{text}"
     );
 }

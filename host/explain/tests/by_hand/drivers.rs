@@ -9,7 +9,8 @@ fn output_12() {
         "7: a pin driven by something that doesn't exist",
         "  at      slice 40, pin C3: bytes 5178 and 5179, in the record at byte 5085",
         "  stands  4108, which would be output 12 of slice 0",
-        "  may     0 or 1; 256 to 258 (in 0 to in 2); 4096 + 16s + k for output k (0 to 11) of slice s (0 to 63)",
+        "  may     0 or 1; 256 to 258 (in 0 to in 2); 4096 + 16s + k for output k (0 to 11: A.O6 to D.O6, AMUX to DMUX, AQ to DQ)",
+        "          of slice s (0 to 63)",
         SOME_LOOPS,
     ];
     let file = Column::zeros(64, 3).pin(40, "C3", 4108).bytes();
@@ -40,7 +41,8 @@ fn other_sizes() {
         let file = Column::zeros(1, m).pin(0, "WE", 2).bytes();
         explained(&file).faults.remove(0).may
     };
-    let outputs = "4096 + k for output k (0 to 11) of slice 0";
+    let outputs =
+        "4096 + k for output k (0 to 11: A.O6 to D.O6, AMUX to DMUX, AQ to DQ) of slice 0";
     assert_eq!(may(0), format!("0 or 1; {outputs}"));
     assert_eq!(may(1), format!("0 or 1; 256 (in 0); {outputs}"));
     let inputs = "256 to 319 (in 0 to in 63)";
