@@ -179,113 +179,119 @@ fn assert_mistake(text: &str, expected: &str) {
     );
 }
 
+/// Texts, each with the line, column and width of its mistake, and how the message begins.
+const MISTAKES: &[(&str, &str)] = &[
+    ("", "0:0+0 no line says how many slices there are"),
+    ("# nothing\n\n", "0:0+0 no line says how many slices"),
+    ("slices", "1:7+1 the line ends here: a number from 0 to 255"),
+    ("slices 256", "1:8+3 `256`: a number from 0 to 255 is due"),
+    ("slices -1", "1:8+2 `-1`: a number"),
+    ("slices 01", "1:8+2 `01`: a number"),
+    ("slices 1 2", "1:10+1 `2`: nothing more"),
+    ("slices 1\nslices 1", "2:1+6 `slices`: line 1 has said this"),
+    ("slice 0", "1:1+5 `slice`: a line such as `slices 2`"),
+    ("slices 1\nslice 1", "2:7+1 `1`: a number from 0 to 0"),
+    (
+        "slices 1\nslice 0 SLICEX",
+        "2:9+6 `SLICEX`: SLICEL, SLICEM or `choice 7`",
+    ),
+    ("slices 1\nA1 = 1", "2:1+2 `A1`: a line such as `slice 0`"),
+    (
+        "slices 1\nslice 0\nA1 = 1\nA1 = 1",
+        "4:1+2 `A1`: line 3 has said this",
+    ),
+    ("name In = in 0", "1:6+2 `In`: a name is a word of small"),
+    ("name in = in 0", "1:6+2 `in`: a name is"),
+    ("name in3 = in 0", "1:6+3 `in3`: a name is"),
+    ("name in03 = in 0", "1:6+4 `in03`: a name is"),
+    ("name clock = in 0", "1:6+5 `clock`: a name is"),
+    (
+        "slices 0\nslice 0",
+        "2:1+5 `slice`: the column has no slices",
+    ),
+    ("name far = in3840", "1:12+6 `in3840`: an input"),
+    ("name s12 = in 0", "1:6+3 `s12`: a name is"),
+    (
+        "slices 1\nname far = s1.AQ",
+        "2:12+5 `s1.AQ`: the column doesn't have it",
+    ),
+    (
+        "name far = in0\nslices 1",
+        "1:12+3 `in0`: the column doesn't have it",
+    ),
+    (
+        "slices 1\n\u{200b}slice 0",
+        "2:1+1 `U+200B`: no line begins so",
+    ),
+    ("name step in 0", "1:11+2 `in`: a `=` is due"),
+    (
+        "name a = in 0\nname a = in 1",
+        "2:6+1 `a`: line 1 has said this",
+    ),
+    (
+        "name a = in 0 in 1\nslices 1\nslice 0\nA1 = a",
+        "4:6+1 `a`: this name stands for more",
+    ),
+];
+
 #[test]
 fn mistakes_are_placed() {
-    for (text, expected) in [
-        ("", "0:0+0 no line says how many slices there are"),
-        ("# nothing\n\n", "0:0+0 no line says how many slices"),
-        ("slices", "1:7+1 the line ends here: a number from 0 to 255"),
-        ("slices 256", "1:8+3 `256`: a number from 0 to 255 is due"),
-        ("slices -1", "1:8+2 `-1`: a number"),
-        ("slices 01", "1:8+2 `01`: a number"),
-        ("slices 1 2", "1:10+1 `2`: nothing more"),
-        ("slices 1\nslices 1", "2:1+6 `slices`: line 1 has said this"),
-        ("slice 0", "1:1+5 `slice`: a line such as `slices 2`"),
-        ("slices 1\nslice 1", "2:7+1 `1`: a number from 0 to 0"),
-        (
-            "slices 1\nslice 0 SLICEX",
-            "2:9+6 `SLICEX`: SLICEL, SLICEM or `choice 7`",
-        ),
-        ("slices 1\nA1 = 1", "2:1+2 `A1`: a line such as `slice 0`"),
-        (
-            "slices 1\nslice 0\nA1 = 1\nA1 = 1",
-            "4:1+2 `A1`: line 3 has said this",
-        ),
-        ("name In = in 0", "1:6+2 `In`: a name is a word of small"),
-        ("name in = in 0", "1:6+2 `in`: a name is"),
-        ("name in3 = in 0", "1:6+3 `in3`: a name is"),
-        ("name in03 = in 0", "1:6+4 `in03`: a name is"),
-        ("name clock = in 0", "1:6+5 `clock`: a name is"),
-        (
-            "slices 0\nslice 0",
-            "2:1+5 `slice`: the column has no slices",
-        ),
-        ("name far = in3840", "1:12+6 `in3840`: an input"),
-        ("name s12 = in 0", "1:6+3 `s12`: a name is"),
-        (
-            "slices 1\nname far = s1.AQ",
-            "2:12+5 `s1.AQ`: the column doesn't have it",
-        ),
-        (
-            "name far = in0\nslices 1",
-            "1:12+3 `in0`: the column doesn't have it",
-        ),
-        (
-            "slices 1\n\u{200b}slice 0",
-            "2:1+1 `U+200B`: no line begins so",
-        ),
-        ("name step in 0", "1:11+2 `in`: a `=` is due"),
-        (
-            "name a = in 0\nname a = in 1",
-            "2:6+1 `a`: line 1 has said this",
-        ),
-        (
-            "name a = in 0 in 1\nslices 1\nslice 0\nA1 = a",
-            "4:6+1 `a`: this name stands for more",
-        ),
-    ] {
+    for (text, expected) in MISTAKES {
         assert_mistake(text, expected);
     }
 }
 
-/// Lines of a slice, each with the column of its mistake.
+/// Lines of a slice, likewise.
+const MISTAKES_IN_A_SLICE: &[(&str, &str)] = &[
+    ("slice 0", "7+1 `0`: line 2 has said this"),
+    ("  A7 = 1", "3+2 `A7`: no line begins so"),
+    (
+        "A1 = 2",
+        "6+1 `2`: 0, 1, `code 7`, an input (`in 3`), an output",
+    ),
+    ("A1 = in 3840", "9+4 `3840`: a number from 0 to 3839"),
+    ("A1 = s0.A.sum", "6+8 `s0.A.sum`: 0, 1, `code 7`, an input"),
+    ("A1 = s9999.AQ", "6+8 `s9999.AQ`: 0, 1, `code 7`"),
+    ("A1 = code 65536", "11+5 `65536`: a number from 0 to 65535"),
+    ("A1 = step", "6+4 `step`: 0, 1, `code 7`"),
+    ("A1 =", "5+1 the line ends here: 0, 1, `code 7`"),
+    (
+        "A mode shft",
+        "8+4 `shft`: logic, memory, shift or `choice 7`",
+    ),
+    ("A mode choice 256", "15+3 `256`: a number from 0 to 255"),
+    ("A = B1", "5+2 `B1`: an operand is A1 to A6"),
+    ("A = 2", "5+1 `2`: an operand is A1 to A6"),
+    ("A = (A1", "8+1 the line ends here: a `)` is due"),
+    ("A = A1 ? A2", "12+1 the line ends here: a `:` is due"),
+    ("A = A1 A2", "8+2 `A2`: nothing more"),
+    ("A = 0x", "5+2 `0x`: not 1 to 16 hexadecimal"),
+    (
+        "A = 0x10000000000000000",
+        "5+19 `0x10000000000000000`: not 1",
+    ),
+    ("A = 0xg", "5+3 `0xg`: not 1 to 16"),
+    ("A = 0x+1", "5+2 `0x`: not 1 to 16"),
+    ("A = ä", "5+1 `ä`: an operand"),
+    ("set AQ E5Q", "8+3 `E5Q`: flip-flops are due"),
+    ("set none AQ", "10+2 `AQ`: nothing more"),
+];
+
 #[test]
 fn mistakes_in_a_slice() {
-    let brackets = format!("A = {}A1", "(".repeat(40));
-    let selects = format!("A = {}A1", "A1 ? A1 : ".repeat(400));
-    let long = format!("A = {}A1", "!".repeat(4092));
-    for (line, expected) in [
-        ("slice 0", "7+1 `0`: line 2 has said this"),
-        ("  A7 = 1", "3+2 `A7`: no line begins so"),
-        (
-            "A1 = 2",
-            "6+1 `2`: 0, 1, `code 7`, an input (`in 3`), an output",
-        ),
-        ("A1 = in 3840", "9+4 `3840`: a number from 0 to 3839"),
-        ("A1 = s0.A.sum", "6+8 `s0.A.sum`: 0, 1, `code 7`, an input"),
-        ("A1 = s9999.AQ", "6+8 `s9999.AQ`: 0, 1, `code 7`"),
-        ("A1 = code 65536", "11+5 `65536`: a number from 0 to 65535"),
-        ("A1 = step", "6+4 `step`: 0, 1, `code 7`"),
-        ("A1 =", "5+1 the line ends here: 0, 1, `code 7`"),
-        (
-            "A mode shft",
-            "8+4 `shft`: logic, memory, shift or `choice 7`",
-        ),
-        ("A mode choice 256", "15+3 `256`: a number from 0 to 255"),
-        ("A = B1", "5+2 `B1`: an operand is A1 to A6"),
-        ("A = 2", "5+1 `2`: an operand is A1 to A6"),
-        ("A = (A1", "8+1 the line ends here: a `)` is due"),
-        ("A = A1 ? A2", "12+1 the line ends here: a `:` is due"),
-        ("A = A1 A2", "8+2 `A2`: nothing more"),
-        ("A = 0x", "5+2 `0x`: not 1 to 16 hexadecimal"),
-        (
-            "A = 0x10000000000000000",
-            "5+19 `0x10000000000000000`: not 1",
-        ),
-        ("A = 0xg", "5+3 `0xg`: not 1 to 16"),
-        ("A = 0x+1", "5+2 `0x`: not 1 to 16"),
-        ("A = ä", "5+1 `ä`: an operand"),
-        ("set AQ E5Q", "8+3 `E5Q`: flip-flops are due"),
-        ("set none AQ", "10+2 `AQ`: nothing more"),
-        (&brackets, "37+1 `(`: more than 32 expressions"),
-        (&long, "4097+1 a line has at most 4096 characters"),
-        (&selects, "320+2 `A1`: more than 32 expressions"),
-    ] {
-        assert_mistake(
-            &format!("slices 1\nslice 0\n{line}"),
-            &format!("3:{expected}"),
-        );
+    let assert_mistake = |line: &str, expected: &str| {
+        let text = format!("slices 1\nslice 0\n{line}");
+        assert_mistake(&text, &format!("3:{expected}"));
+    };
+    for (line, expected) in MISTAKES_IN_A_SLICE {
+        assert_mistake(line, expected);
     }
+    let brackets = format!("A = {}A1", "(".repeat(40));
+    assert_mistake(&brackets, "37+1 `(`: more than 32 expressions");
+    let selects = format!("A = {}A1", "A1 ? A1 : ".repeat(400));
+    assert_mistake(&selects, "320+2 `A1`: more than 32 expressions");
+    let long = format!("A = {}A1", "!".repeat(4092));
+    assert_mistake(&long, "4097+1 a line has at most 4096 characters");
 }
 
 /// The line is shown under the message, and the word marked.

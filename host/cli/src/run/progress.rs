@@ -32,7 +32,7 @@ impl Progress {
 
     /// A clock was made.
     pub fn made(&mut self, clock: usize) {
-        if clock % LOOK != 0 {
+        if !clock.is_multiple_of(LOOK) {
             return;
         }
         if self.waits && self.start.elapsed() > PATIENCE {

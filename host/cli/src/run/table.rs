@@ -29,7 +29,7 @@ impl Output for Table {
         let values = self.watched.iter().map(|one| cell(one, &one.value(column)));
         let values: String = values.collect();
         self.to
-            .write(&format!("{clock:>width$}{values}\n", width = CLOCK.len()))
+            .write(format!("{clock:>width$}{values}\n", width = CLOCK.len()))
     }
 
     fn finish(&mut self, _clocks: usize) -> Outcome<()> {

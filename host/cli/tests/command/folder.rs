@@ -24,9 +24,9 @@ impl Folder {
     /// A new folder with Z, a looped file, one with a pin that has no driver, and an empty one.
     pub fn with_files(name: &str) -> Folder {
         let folder = Folder::new(name);
-        folder.put("z", &worked_file(1));
-        folder.put("looped", &worked_file(5));
-        folder.put("broken", &broken());
+        folder.put("z", worked_file(1));
+        folder.put("looped", worked_file(5));
+        folder.put("broken", broken());
         folder.put("empty", b"");
         folder
     }
