@@ -1,6 +1,7 @@
 //! The command `run`: tables by hand, edits and what is watched; and against a simulator.
 
 use std::process::Command;
+use std::time::Instant;
 
 use export::iverilog;
 use model::layout::*;
@@ -231,10 +232,10 @@ fn run_is_iverilog() {
     }
 }
 
-/// A run of some seconds in a terminal, and what was written there.
+/// A run in a terminal, and what was written there.
 fn in_terminal(folder: &Folder, words: &str) -> String {
     let binary = env!("CARGO_BIN_EXE_quagmuffin");
-    let line = format!("{binary} run large {words}");
+    let line = format!("'{binary}' run large {words}");
     let mut script = Command::new("script");
     script.args(["-q", "-e", "-c", &line, "/dev/null"]);
     let output = script.current_dir(folder.path("")).output();
@@ -243,21 +244,37 @@ fn in_terminal(folder: &Folder, words: &str) -> String {
     String::from_utf8_lossy(&output.stdout).into_owned()
 }
 
+/// So many clocks as take some three seconds.
+fn many_clocks(folder: &Folder) -> usize {
+    let start = Instant::now();
+    folder.text(&["run", "large", "--clocks", "5000", "--csv", "out"]);
+    let clocks = 5000.0 * 3.0 / start.elapsed().as_secs_f64();
+    (clocks as usize).clamp(5000, 1_000_000)
+}
+
 /// On a terminal a run that takes long says how far it is, where it writes nothing else there; elsewhere it doesn't.
 #[test]
 fn progress_on_a_terminal() {
     let folder = Folder::new("progress");
     folder.put("large", Column::zeros(64, 0).bytes());
-    let long = in_terminal(&folder, "--clocks 60000 --csv out");
-    assert!(long.contains(" of 60000 clocks, "), "{long:?}");
+    let clocks = many_clocks(&folder);
+    let long = in_terminal(&folder, &format!("--clocks {clocks} --csv out"));
+    assert!(long.contains(&format!(" of {clocks} clocks, ")), "{long:?}");
     assert_eq!(in_terminal(&folder, "--clocks 10 --csv out"), "");
-    let rows = in_terminal(&folder, "--clocks 60000 --watch s0.AQ --csv -");
+    let rows = in_terminal(&folder, &format!("--clocks {clocks} --watch s0.AQ --csv -"));
     let row = |clock| format!("{clock},0\r\n");
-    let expected: String = (0..60000).map(row).collect();
+    let expected: String = (0..clocks).map(row).collect();
     assert!(
         rows == format!("clock,s0.AQ\r\n{expected}"),
         "rows and more"
     );
-    let silent = folder.text(&["run", "large", "--clocks", "60000", "--csv", "out"]);
-    assert_eq!(silent, "");
+    let words = [
+        "run",
+        "large",
+        "--clocks",
+        &clocks.to_string(),
+        "--csv",
+        "out",
+    ];
+    assert_eq!(folder.text(&words), "");
 }

@@ -2,8 +2,7 @@
 
 use std::fs::{self, Permissions};
 use std::os::unix::fs::{MetadataExt, PermissionsExt};
-use std::os::unix::process::CommandExt;
-use std::process::{Command, Output};
+use std::process::{Command, Output, Stdio};
 
 use testkit::command::{assert_fails, assert_says};
 
@@ -28,13 +27,18 @@ fn words_with<'a>(words: &[&'a str], bad: &'a str) -> Vec<&'a str> {
     words.iter().map(word).collect()
 }
 
-/// Runs as another user where the test is run by one who may read everything.
-fn run_as_nobody(command: &mut Command) -> Output {
+/// The binary, run by one who may not read everything: a superuser gives up what lets him.
+fn unprivileged(folder: &Folder, words: &[&str]) -> Output {
+    let binary = folder.command(words);
     let process = fs::metadata("/proc/self").expect("the process");
-    if process.uid() == 0 {
-        command.uid(65534);
-    }
-    command.output().expect("the binary")
+    let mut command = match process.uid() {
+        0 => Command::new("setpriv"),
+        _ => return folder.run(words),
+    };
+    command.args(["--bounding-set=-all", "--inh-caps=-all"]);
+    command.arg(binary.get_program()).args(words);
+    command.current_dir(folder.path("")).stdin(Stdio::null());
+    command.output().expect("setpriv, of util-linux")
 }
 
 #[test]
@@ -50,9 +54,8 @@ fn what_cannot_be_read() {
         ] {
             assert_fails(&folder.run(&words_with(words, bad)), why);
         }
-        let mut command = folder.command(&words_with(words, "closed"));
-        let why = "quagmuffin: closed: Permission denied\n";
-        assert_fails(&run_as_nobody(&mut command), why);
+        let output = unprivileged(&folder, &words_with(words, "closed"));
+        assert_fails(&output, "quagmuffin: closed: Permission denied\n");
     }
 }
 
