@@ -10,7 +10,7 @@ use crate::args::Stimulus;
 use crate::failure::{name, Failure, Outcome};
 use crate::output::{say, Used};
 use crate::run::inputs::Inputs;
-use crate::source::{self, Design};
+use crate::source;
 
 /// The program's line for a file, and the exit status that is its verdict.
 fn verdict(file: &[u8]) -> (String, u8) {
@@ -42,7 +42,11 @@ pub fn judge_files(paths: &[PathBuf]) -> Outcome<u8> {
 
 /// The verdict is the library's; the second program words it, and has to agree. Of a text the slice file is explained that it makes.
 pub fn explain_file(path: &Path) -> Outcome<u8> {
-    let Design { name, file, .. } = source::design(path)?;
+    let (name, file) = (name(path), source::slice_file(path)?);
+    let file = match source::not_of_text(&file) {
+        None => source::design_of(name.clone(), file)?.file,
+        Some(_) => file,
+    };
     let (line, status) = verdict(&file);
     let Explained { faults, note } = explain::explain(&file);
     let (count, worded) = match &faults[..] {
@@ -76,9 +80,11 @@ fn rest(file: &[u8]) -> Option<String> {
 
 /// Something that begins like a text and is none.
 fn hint(file: &[u8]) -> Option<String> {
-    let zero = file.iter().position(|&byte| byte == 0)?;
-    let hint = format!("It begins like a text, but byte {zero} is zero: a text is UTF-8.");
-    source::begins_like_text(file).then_some(hint)
+    let place = source::not_of_text(file).filter(|_| source::begins_like_text(file))?;
+    let byte = file[place];
+    Some(format!(
+        "It begins like a text, but byte {place} is {byte:#x}: a text is UTF-8, and has no zeros."
+    ))
 }
 
 /// A design is shown whether it is accepted or not.

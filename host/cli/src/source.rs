@@ -97,10 +97,22 @@ pub fn begins_like_text(file: &[u8]) -> bool {
     file.first().is_some_and(begins)
 }
 
-/// A design, as a slice file or as a text, in which no byte is zero.
+/// The first byte that no text has: zero, or not UTF-8.
+pub fn not_of_text(file: &[u8]) -> Option<usize> {
+    let zero = file.iter().position(|&byte| byte == 0);
+    let other = std::str::from_utf8(file)
+        .err()
+        .map(|error| error.valid_up_to());
+    zero.into_iter().chain(other).min()
+}
+
+/// A design, as a slice file or as a text.
 pub fn design(path: &Path) -> Outcome<Design> {
-    let name = name(path);
-    let file = bytes(path, MOST_BYTES)?;
+    design_of(name(path), slice_file(path)?)
+}
+
+/// What begins like a text is one, if no byte is zero.
+pub fn design_of(name: String, file: Vec<u8>) -> Outcome<Design> {
     if !begins_like_text(&file) || file.contains(&0) {
         let names = vec![];
         return Ok(Design { name, file, names });

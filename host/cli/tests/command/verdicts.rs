@@ -112,13 +112,13 @@ fn explain_takes_a_text() {
 #[test]
 fn explain_says_what_it_was_given() {
     let folder = Folder::new("explain given");
-    folder.put("wide", b"s\0l\0i\0c\0e\0s\0");
-    let text = written(&folder.run(&["explain", "wide"]), 1);
-    assert!(text.starts_with("wide: refused 2 0: "), "{text}");
-    assert!(
-        text.ends_with("\nIt begins like a text, but byte 1 is zero: a text is UTF-8.\n"),
-        "{text}"
-    );
+    for (bytes, place, byte) in [(&b"s\0l\0i\0"[..], 1, "0x0"), (b"slices \xff\0", 7, "0xff")] {
+        folder.put("file", bytes);
+        let text = written(&folder.run(&["explain", "file"]), 1);
+        assert!(text.starts_with("file: refused 2 0: "), "{text}");
+        let hint = format!("\nIt begins like a text, but byte {place} is {byte}: a text is UTF-8, and has no zeros.\n");
+        assert!(text.ends_with(&hint), "{text}");
+    }
     let text = written(&folder.run(&["explain", "/dev/zero"]), 1);
     assert!(text.starts_with("/dev/zero: refused 2 0: "), "{text}");
     assert!(
