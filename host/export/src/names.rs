@@ -1,6 +1,6 @@
 //! Names of wires: `s3_B_O6` is O6 of letter B of slice 3, `s3_BMUX` its output BMUX, `s3_B6` its pin B6.
 
-use model::design::{Driver, Signal};
+use model::design::{Driver, Output, Signal};
 use model::layout::{LETTER_NAMES, PIN_NAMES};
 
 pub fn signal(slice: usize, signal: Signal) -> String {
@@ -26,6 +26,10 @@ pub fn driver(driver: Driver) -> String {
     match driver {
         Driver::Constant(bit) => constant(bit),
         Driver::Input(input) => format!("inputs[{input}]"),
-        Driver::Output { slice, output } => signal(slice, output.signal()),
+        Driver::Output { slice, output } => match output {
+            Output::O6(letter) => signal(slice, Signal::O6(letter)),
+            Output::Mux(letter) => signal(slice, Signal::Mux(letter)),
+            Output::Main(letter) => signal(slice, Signal::Main(letter)),
+        },
     }
 }

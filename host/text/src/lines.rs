@@ -90,8 +90,6 @@ pub fn lines(text: &str) -> impl Iterator<Item = Result<Line<'_>, Mistake>> {
 /// A line that is read from the left.
 pub struct Line<'a> {
     pub number: usize,
-    /// The line without its comment.
-    pub text: &'a str,
     tokens: Vec<Token<'a>>,
     /// How many of them were read.
     read: usize,
@@ -137,7 +135,6 @@ impl<'a> Line<'a> {
         let end = |last: &Token| last.column + last.text.chars().count();
         Ok(Line {
             number,
-            text: text.trim(),
             end: tokens.last().map_or(1, end),
             tokens,
             read: 0,
