@@ -1,5 +1,5 @@
 -- Refusals 1 to 8 of a whole file: "the first bad record decides".
-use Prim.Native.Nat.{ℕ, zero, suc, _+_}
+use Prim.Native.Nat.{ℕ, zero, suc, _+_, _-_}
 use mathlib.Core.Path.{_≡_}
 use mathlib.Core.List.{List}
 use lib.Dec.{ltb}
@@ -7,7 +7,7 @@ use lib.ListN.{length, drop}
 use Rattle.slicefile.specs.Format.{sliceTag, endTag, recordLength, sliceCount, inputCount}
 use Rattle.rules.specs.Rules.{given}
 use Rattle.framing.specs.Framing.{headerRefusal, sliceRefusal, sizeRefusal}
-use Rattle.column.specs.File.{sizeLength}
+use Rattle.column.specs.File.{sizeLength, recordStart}
 use Rattle.column.specs.declared.Checked.{Checked}
 use Rattle.column.specs.declared.Checked.the-variants.{Bad, Sound}
 
@@ -34,6 +34,28 @@ unfoldable pub checkFile : List ℕ → Checked
 checkFile file =
     let rest = checkSlices (sliceCount file) (inputCount file) (sliceCount file) 0 (sizeLength file) (drop (sizeLength file) file) in
     firstBad (sizeRefusal file) 0 rest
+
+-- ---- the check in parts: taken up at a slice, those before it having passed
+unfoldable pub checkFrom : ℕ → List ℕ → Checked
+checkFrom s file =
+    let n = sliceCount file in
+    let at = recordStart file s in
+    firstBad (sizeRefusal file) 0 (checkSlices n (inputCount file) (n - s) s at (drop at file))
+
+-- a count that goes on only after no refusal
+abbrev pub stopAt : ℕ → ℕ → ℕ → ℕ
+stopAt zero count on = on
+stopAt (suc k) count on = count
+
+-- how many slices have passed then: those before the first bad one
+unfoldable pub passSlices : ℕ → ℕ → ℕ → ℕ → List ℕ → ℕ
+passSlices n m zero s bytes = s
+passSlices n m (suc left) s bytes = stopAt (sliceRefusal n m s bytes) s (passSlices n m left (suc s) (drop (recordLength sliceTag) bytes))
+
+unfoldable pub passedFrom : ℕ → List ℕ → ℕ
+passedFrom s file =
+    let n = sliceCount file in
+    stopAt (sizeRefusal file) s (passSlices n (inputCount file) (n - s) s (drop (recordStart file s) file))
 
 -- a file of n slices and m outside inputs whose records are all good
 abbrev pub IsSound : List ℕ → ℕ → ℕ → Type 0

@@ -1,10 +1,11 @@
 // A whole slice file: its records checked, its netlist, and the judge.
 ghost use mathlib.Core.Path.{_≡_};
-ghost use Prim.Native.Nat.{_<_, _^_};
+ghost use Prim.Native.Nat.{_≤_, _<_, _^_};
 ghost use lib.ListN.{length};
 ghost use Rattle.lent.specs.Lent.{was, left};
 ghost use Rattle.column.specs.File.{sliceBody, gateAt};
-ghost use Rattle.column.specs.Check.{checkEnd, checkFile, IsSound};
+ghost use Rattle.slicefile.specs.Format.{sliceLimit};
+ghost use Rattle.column.specs.Check.{checkEnd, checkFile, checkFrom, passedFrom, IsSound};
 ghost use Rattle.column.specs.Judge.{Judged};
 ghost use Rattle.netlist.specs.Table.{signalLimit, signalCount, tableLength};
 ghost use Rattle.column.specs.Compile.{tableLimit, Lowered, Compiled, Loaded};
@@ -34,10 +35,26 @@ pub enum Checked {
     Sound { n: usize, m: usize },
 }
 
+// How far a check came: what the records say, and how many slices passed.
+pub struct Progress {
+    pub checked: Checked,
+    pub passed: usize,
+}
+
 // The judge's answer: a refusal's number and place, or the slice count and the outside inputs.
 pub enum Verdict {
     Refused { number: usize, place: usize },
     Accepted { n: usize, m: usize },
+}
+
+// A check that stopped at a bad record.
+fn stopped(number: usize, place: usize, passed: usize) -> Progress
+    ensures { λ r. ⌜ (r .checked ≡ Checked.Bad number place) × (r .passed ≡ passed) ⌝ }
+{
+    Progress {
+        checked: Checked::Bad { number, place },
+        passed,
+    }
 }
 
 // The end record at a place of the file, and that nothing follows it.
@@ -58,33 +75,40 @@ fn check_end(n: usize, m: usize, place: usize, s: &[u8]) -> Checked
     Checked::Bad { number, place }
 }
 
-// Rules 1 to 8 on a whole file.
-pub fn check_file(file: &[u8]) -> Checked
-    ensures { λ r. ⌜ r ≡ checkFile (was file) ⌝ }
+// Rules 1 to 8 on a whole file, of which some slices passed before.
+pub fn check_from(file: &[u8], passed: usize) -> Progress
+    requires { ⌜ passed ≤ sliceLimit ⌝ }
+    ensures { λ r. ⌜ (r .checked ≡ checkFrom passed (was file)) × (r .passed ≡ passedFrom passed (was file)) ⌝ }
 {
     let h = framing::size_refusal(file);
     if h != 0 {
-        return Checked::Bad {
-            number: h,
-            place: 0,
-        };
+        return stopped(h, 0, passed);
     }
     let n = file[SLICE_COUNT] as usize;
     let m = file[INPUT_COUNT] as usize;
-    let mut s: usize = 0;
-    let mut at: usize = SIZE_RECORD;
+    let mut s: usize = passed;
+    let mut at: usize = SIZE_RECORD + SLICE_RECORD * passed;
+    if file.len() < at {
+        return stopped(1, at, passed);
+    }
     while s < n {
         let r = framing::slice_refusal(n, m, s, &file[at..]);
         if r != 0 {
-            return Checked::Bad {
-                number: r,
-                place: at,
-            };
+            return stopped(r, at, s);
         }
         s += 1;
         at += SLICE_RECORD;
     }
-    check_end(n, m, at, &file[at..])
+    let checked = check_end(n, m, at, &file[at..]);
+    Progress { checked, passed: s }
+}
+
+// Rules 1 to 8 on a whole file.
+pub fn check_file(file: &[u8]) -> Checked
+    ensures { λ r. ⌜ r ≡ checkFile (was file) ⌝ }
+{
+    let progress = check_from(file, 0);
+    progress.checked
 }
 
 // The body of slice s of a sound file.

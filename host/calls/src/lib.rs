@@ -89,6 +89,16 @@ mod exported {
             part: *mut u8,
             part_len: usize,
         ) -> u64;
+
+        pub fn qm_feed(
+            state: *mut u64,
+            state_len: usize,
+            store: *mut u8,
+            store_len: usize,
+            run: *const u8,
+            run_len: usize,
+            last: u8,
+        ) -> u64;
     }
 }
 
@@ -149,9 +159,10 @@ fn refused(packed: u64) -> Refused {
     }
 }
 
-/// Judges any bytes.
-pub fn judge(file: &[u8]) -> Result<Accepted, Refused> {
-    let packed = unsafe { exported::qm_judge(file.as_ptr(), file.len()) };
+/// What the judge says of bytes.
+pub type Verdict = Result<Accepted, Refused>;
+
+fn verdict(packed: u64) -> Verdict {
     match packed as u8 {
         0 => Ok(Accepted {
             n: (packed >> 8) as u16 as usize,
@@ -159,6 +170,11 @@ pub fn judge(file: &[u8]) -> Result<Accepted, Refused> {
         }),
         _ => Err(refused(packed)),
     }
+}
+
+/// Judges any bytes.
+pub fn judge(file: &[u8]) -> Verdict {
+    verdict(unsafe { exported::qm_judge(file.as_ptr(), file.len()) })
 }
 
 /// Fills 4n words of contents and n flip-flop bytes with the state at power-up.
@@ -305,4 +321,27 @@ pub fn write_record(body: &[u8], n: usize, m: usize, part: &mut [u8]) -> Answer 
             part.len(),
         )
     })
+}
+
+/// The words of a reader's state, and the bytes of its store.
+pub const STATE: usize = 3;
+pub const STORE: usize = 8136;
+
+/// Gives a reader the next run of a file's bytes, and whether (`last` not 0) no more will come. `None` says that more is needed.
+pub fn feed(state: &mut [u64], store: &mut [u8], run: &[u8], last: u8) -> Option<Verdict> {
+    let packed = unsafe {
+        exported::qm_feed(
+            state.as_mut_ptr(),
+            state.len(),
+            store.as_mut_ptr(),
+            store.len(),
+            run.as_ptr(),
+            run.len(),
+            last,
+        )
+    };
+    match packed {
+        0 => None,
+        _ => Some(verdict(packed)),
+    }
 }

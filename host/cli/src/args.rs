@@ -1,6 +1,7 @@
 //! The words of the command.
 
 use std::path::{Path, PathBuf};
+use std::time::Duration;
 
 use clap::{Args, Parser, Subcommand};
 use clap_complete::Shell;
@@ -8,7 +9,7 @@ use export::bench::MOST_CLOCKS;
 
 /// Judges slice files of paper-pattern cutters, explains what is wrong with one, shows and writes them as text, and runs them.
 ///
-/// FILE is a slice file, or `-` for standard input. But for judge, which takes bytes as they are, it may be a text as well.
+/// FILE is a slice file, or `-` for standard input. But for judge and receive, which take bytes as they are, it may be a text as well.
 /// Verdicts, values and states are those of the proved library.
 #[derive(Parser)]
 #[command(name = "quagmuffin", version, after_help = STATUSES)]
@@ -18,7 +19,7 @@ pub struct Cli {
 }
 
 const STATUSES: &str =
-    "The exit status is 0; or 1 where the file is refused that was judged, explained, written, run or exported, and where two files differ; or 2 where the command can't do what it was asked, which it says.
+    "The exit status is 0; or 1 where the file is refused that was judged, received, explained, written, run or exported, and where two files differ; or 2 where the command can't do what it was asked, which it says.
 
 README.md has a tour, docs/TEXT.md the text form.";
 
@@ -30,6 +31,9 @@ pub enum Command {
         #[arg(value_name = "FILE", required = true)]
         files: Vec<PathBuf>,
     },
+    /// Judge a file that comes in pieces, from a pipe or a serial line, at the first byte that settles it
+    #[command(after_help = RECEIVE)]
+    Receive(Receive),
     /// Say in words what is wrong with a file, and where: every fault, the judge's first
     Explain {
         /// A slice file or a text
@@ -75,6 +79,35 @@ pub enum Command {
         shell: Shell,
     },
 }
+
+#[derive(Args)]
+pub struct Receive {
+    /// Where the file comes from, a device for example; `-` is standard input
+    #[arg(value_name = "FILE", default_value = "-")]
+    pub file: PathBuf,
+    /// Take a silence of so many seconds for the end of the file, once its first byte is there
+    #[arg(long, value_name = "SECONDS", value_parser = seconds)]
+    pub idle: Option<Duration>,
+    /// Write the bytes up to the verdict to a file, or to standard output for `-`, also where they are refused
+    #[arg(short, long, value_name = "FILE")]
+    pub output: Option<PathBuf>,
+}
+
+/// A time in seconds.
+fn seconds(word: &str) -> Result<Duration, String> {
+    let seconds = word.parse().ok().filter(|x| (0.001..=86400.0).contains(x));
+    let time = seconds.map(Duration::from_secs_f64);
+    time.ok_or("a number from 0.001 to 86400 is due".to_string())
+}
+
+const RECEIVE: &str =
+    "A refusal from 2 to 8 is said at the first byte at which it is certain, and no more is waited for; standard error has the number of bytes up to it. What depends on the end is said there: accepted, 1 or 9.
+
+A serial line has no end: --idle gives it one. stty sets its speed, and raw, so that no byte is changed or left out. What is typed at a terminal ends with Ctrl-D.
+
+  stty -F /dev/ttyUSB0 9600 raw -echo
+  quagmuffin receive /dev/ttyUSB0 --idle 2 -o board.bin
+  ssh cutter cat board.bin | quagmuffin receive";
 
 /// What a design is clocked with.
 #[derive(Args)]

@@ -4,17 +4,17 @@ use std::path::{Path, PathBuf};
 
 use explain::{Explained, Fault};
 use export::Netlist;
-use quagmuffin::{judge, Refused};
+use quagmuffin::{judge, Refused, Verdict};
 
 use crate::args::Stimulus;
 use crate::failure::{name, Failure, Outcome};
-use crate::output::{say, Used};
+use crate::output::{say, Sink, Used};
 use crate::run::inputs::Inputs;
 use crate::source;
 
-/// The program's line for a file, and the exit status that is its verdict.
-fn verdict(file: &[u8]) -> (String, u8) {
-    match judge(file) {
+/// The program's line for a verdict, and the exit status that says it.
+pub fn line_of(verdict: Verdict) -> (String, u8) {
+    match verdict {
         Ok(accepted) => (accepted.to_string(), 0),
         Err(refused) => (refused.to_string(), 1),
     }
@@ -29,7 +29,7 @@ pub fn judge_files(paths: &[PathBuf]) -> Outcome<u8> {
     let mut worst = 0;
     let mut text = String::new();
     for (path, file) in paths.iter().zip(&files) {
-        let (line, status) = verdict(file);
+        let (line, status) = line_of(judge(file));
         worst = worst.max(status);
         text += &match paths.len() {
             1 => format!("{line}\n"),
@@ -47,7 +47,7 @@ pub fn explain_file(path: &Path) -> Outcome<u8> {
         None => source::design_of(name.clone(), file)?.file,
         Some(_) => file,
     };
-    let (line, status) = verdict(&file);
+    let (line, status) = line_of(judge(&file));
     let Explained { faults, note } = explain::explain(&file);
     let (count, worded) = match &faults[..] {
         [] => ("no fault".to_string(), None),
@@ -104,17 +104,22 @@ pub fn show(path: &Path, slice: Option<usize>) -> Outcome<u8> {
     Ok(0)
 }
 
-/// Says the verdict on what was written, unless that went to standard output itself.
 pub fn write(text: &Path, output: &Path) -> Outcome<u8> {
     let file = source::text(text)?.records.bytes();
-    let (line, status) = verdict(&file);
-    let mut sink = Used::by_reading([text]).open(output)?;
-    sink.write(&file)?;
-    sink.flush()?;
-    if output.as_os_str() != "-" {
-        say(format!("{}: {line}\n", name(output)))?;
-    }
+    let (line, status) = line_of(judge(&file));
+    let sink = Used::by_reading([text]).open(output)?;
+    keep(&file, &line, output, sink)?;
     Ok(status)
+}
+
+/// Writes a file, accepted or not, and says the verdict on it, unless it went to standard output itself.
+pub fn keep(file: &[u8], line: &str, output: &Path, mut sink: Sink) -> Outcome<()> {
+    sink.write(file)?;
+    sink.flush()?;
+    match output.as_os_str() == "-" {
+        true => Ok(()),
+        false => say(format!("{}: {line}\n", name(output))),
+    }
 }
 
 pub fn diff(a: &Path, b: &Path) -> Outcome<u8> {

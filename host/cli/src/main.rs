@@ -4,6 +4,8 @@ mod args;
 mod commands;
 mod failure;
 mod output;
+mod progress;
+mod receive;
 mod run;
 mod source;
 
@@ -34,6 +36,7 @@ fn main() -> ExitCode {
 fn run(command: Command) -> Outcome<u8> {
     match command {
         Command::Judge { files } => commands::judge_files(&files),
+        Command::Receive(words) => receive::receive(&words),
         Command::Explain { file } => commands::explain_file(&file),
         Command::Show { file, slice } => commands::show(&file, slice),
         Command::Write { text, output } => commands::write(&text, &output),

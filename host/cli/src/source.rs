@@ -43,8 +43,8 @@ fn bytes(path: &Path, most: usize) -> Outcome<Vec<u8>> {
     Ok(bytes)
 }
 
-/// The standard library's own handle takes a standard input that can't be read for an empty one.
-fn open(path: &Path) -> io::Result<File> {
+/// A file, or standard input for `-`: the standard library's own handle takes a standard input that can't be read for an empty one.
+pub fn open(path: &Path) -> io::Result<File> {
     match path.as_os_str() == "-" {
         true => Ok(File::from(io::stdin().as_fd().try_clone_to_owned()?)),
         false => File::open(path),

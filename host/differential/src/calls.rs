@@ -2,7 +2,8 @@
 
 use std::fmt;
 
-use ::calls::Refused;
+use ::calls::{Refused, Verdict};
+use model::reader::{certain, feed, Certain};
 use model::records::{read_record, write_record};
 use model::simulate::Refusal;
 use model::{Rules, Simulator, Workings};
@@ -19,12 +20,14 @@ pub enum Call {
     EditTable { table: usize, word: u64 },
     ReadRecord { n: usize, m: usize },
     WriteRecord { n: usize, m: usize },
+    Feed { last: u8 },
 }
 
 #[derive(Clone, Copy, Debug, PartialEq, Eq)]
 pub enum Answer {
     Accepted { n: usize, m: usize },
     Done,
+    More,
     Refused { number: u8, place: u64 },
 }
 
@@ -33,6 +36,7 @@ impl fmt::Display for Answer {
         match self {
             Answer::Accepted { n, m } => write!(out, "accepted {n} {m}"),
             Answer::Done => write!(out, "done"),
+            Answer::More => write!(out, "more"),
             Answer::Refused { number, place } => write!(out, "refused {number} {place}"),
         }
     }
@@ -45,6 +49,9 @@ pub struct Buffers {
     pub record: Lent<u8>,
     pub body: Lent<u8>,
     pub part: Lent<u8>,
+    pub state: Lent<u64>,
+    pub store: Lent<u8>,
+    pub run: Lent<u8>,
 }
 
 impl Buffers {
@@ -55,27 +62,49 @@ impl Buffers {
             record: Lent::bytes(&[]),
             body: Lent::bytes(&[]),
             part: Lent::bytes(&[]),
+            state: Lent::words(&[]),
+            store: Lent::bytes(&[]),
+            run: Lent::bytes(&[]),
         }
     }
 
     /// The buffers of a call on a record.
     pub fn of_record(record: &[u8], body: &[u8], part: &[u8]) -> Buffers {
         Buffers {
-            column: Workbench {
-                file: Lent::bytes(&[]),
-                contents: Lent::words(&[]),
-                flops: Lent::bytes(&[]),
-                inputs: Lent::bytes(&[]),
-                values: Lent::bytes(&[]),
-            },
             record: Lent::bytes(record),
             body: Lent::bytes(body),
             part: Lent::bytes(part),
+            ..Buffers::empty()
         }
     }
 
-    /// All but the contents, by their names.
-    pub fn bytes(&self) -> [(&'static str, &Lent<u8>); 7] {
+    /// The buffers of a reader's call.
+    pub fn of_reader(state: &[u64], store: &[u8], run: &[u8]) -> Buffers {
+        Buffers {
+            state: Lent::words(state),
+            store: Lent::bytes(store),
+            run: Lent::bytes(run),
+            ..Buffers::empty()
+        }
+    }
+
+    fn empty() -> Buffers {
+        Buffers::of_column(Workbench {
+            file: Lent::bytes(&[]),
+            contents: Lent::words(&[]),
+            flops: Lent::bytes(&[]),
+            inputs: Lent::bytes(&[]),
+            values: Lent::bytes(&[]),
+        })
+    }
+
+    /// Those of words, by their names.
+    pub fn words(&self) -> [(&'static str, &Lent<u64>); 2] {
+        [("contents", &self.column.contents), ("state", &self.state)]
+    }
+
+    /// Those of bytes, by their names.
+    pub fn bytes(&self) -> [(&'static str, &Lent<u8>); 9] {
         [
             ("file", &self.column.file),
             ("flops", &self.column.flops),
@@ -84,6 +113,8 @@ impl Buffers {
             ("record", &self.record),
             ("body", &self.body),
             ("part", &self.part),
+            ("store", &self.store),
+            ("run", &self.run),
         ]
     }
 }
@@ -94,15 +125,12 @@ pub type Caller<'a> = dyn Fn(Call, &mut Buffers) -> Answer + 'a;
 pub fn by_library(call: Call, buffers: &mut Buffers) -> Answer {
     let column = &mut buffers.column;
     let (record, body, part) = (&buffers.record, &mut buffers.body, &mut buffers.part);
+    let (state, store, run) = (&mut buffers.state, &mut buffers.store, &buffers.run);
     let answer = match call {
-        Call::Judge => {
-            return match ::calls::judge(column.file.get()) {
-                Ok(size) => Answer::Accepted {
-                    n: size.n,
-                    m: size.m,
-                },
-                Err(Refused { number, place }) => Answer::Refused { number, place },
-            }
+        Call::Judge => return judged(::calls::judge(column.file.get())),
+        Call::Feed { last } => {
+            let heard = ::calls::feed(state.lend(), store.lend(), run.get(), last);
+            return heard.map_or(Answer::More, judged);
         }
         Call::PowerUp => column.power_up(),
         Call::Settle => column.settle(),
@@ -118,10 +146,21 @@ pub fn by_library(call: Call, buffers: &mut Buffers) -> Answer {
     }
 }
 
-/// The model of one file, and of records.
+fn judged(verdict: Verdict) -> Answer {
+    match verdict {
+        Ok(size) => Answer::Accepted {
+            n: size.n,
+            m: size.m,
+        },
+        Err(Refused { number, place }) => Answer::Refused { number, place },
+    }
+}
+
+/// The model of one file, of records, and of readers.
 pub struct Model {
     pub simulator: Simulator,
     pub rules: Rules,
+    pub certain: Certain,
 }
 
 impl Model {
@@ -130,6 +169,7 @@ impl Model {
         Model {
             simulator: Simulator::new(Workings::paper(), file),
             rules: Rules::paper(),
+            certain,
         }
     }
 
@@ -138,6 +178,7 @@ impl Model {
         Model {
             simulator: self.simulator.with(workings),
             rules: self.rules.clone(),
+            certain: self.certain,
         }
     }
 
@@ -160,6 +201,7 @@ impl Model {
             }
             Call::ReadRecord { n, m } => read_record(rules, record.get(), n, m, body.lend()),
             Call::WriteRecord { n, m } => write_record(rules, body.get(), n, m, part.lend()),
+            Call::Feed { last } => return self.feed(buffers, last),
         };
         answer.map_or_else(refused, |()| Answer::Done)
     }
@@ -170,6 +212,16 @@ impl Model {
             m: design.m,
         };
         self.simulator.design().map_or_else(refused, accepted)
+    }
+
+    fn feed(&self, buffers: &mut Buffers, last: u8) -> Answer {
+        let (state, store, run) = (&mut buffers.state, &mut buffers.store, &buffers.run);
+        let deciding = (&self.rules, self.certain);
+        match feed(deciding, state.lend(), store.lend(), run.get(), last) {
+            None => Answer::More,
+            Some(model::Verdict::Accepted { n, m }) => Answer::Accepted { n, m },
+            Some(model::Verdict::Refused { number, place }) => refused(Refusal { number, place }),
+        }
     }
 }
 

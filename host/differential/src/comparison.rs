@@ -17,7 +17,7 @@ pub struct Case {
 /// A case that the library and the model answer differently.
 #[derive(Clone, Debug, PartialEq)]
 pub struct Difference {
-    /// The seed, and the file or record of it.
+    /// The seed, and the file, record or reader of it.
     pub name: String,
     pub case: Case,
     pub text: String,
@@ -67,11 +67,10 @@ fn difference(library: &Outcome, model: &Outcome) -> Option<String> {
 
 fn guard_written(buffers: &Buffers) -> Option<String> {
     let written = |name: &str| format!("the library wrote beside the {name}");
-    if !buffers.column.contents.is_guarded() {
-        return Some(written("contents"));
-    }
-    let mut bytes = buffers.bytes().into_iter();
-    let broken = bytes.find(|(_, lent)| !lent.is_guarded());
+    let words = buffers.words().map(|(name, lent)| (name, lent.is_guarded()));
+    let bytes = buffers.bytes().map(|(name, lent)| (name, lent.is_guarded()));
+    let mut guarded = words.into_iter().chain(bytes);
+    let broken = guarded.find(|(_, guarded)| !guarded);
     broken.map(|(name, _)| written(name))
 }
 
@@ -81,10 +80,13 @@ fn other_answer(library: Answer, model: Answer) -> Option<String> {
 }
 
 fn other_cell(library: &Buffers, model: &Buffers) -> Option<String> {
+    let mut words = library.words().into_iter().zip(model.words());
     let mut bytes = library.bytes().into_iter().zip(model.bytes());
-    first_other("contents", &library.column.contents, &model.column.contents).or_else(|| {
-        bytes.find_map(|((name, library), (_, model))| first_other(name, library, model))
-    })
+    words
+        .find_map(|((name, library), (_, model))| first_other(name, library, model))
+        .or_else(|| {
+            bytes.find_map(|((name, library), (_, model))| first_other(name, library, model))
+        })
 }
 
 fn first_other<T>(name: &str, library: &Lent<T>, model: &Lent<T>) -> Option<String>

@@ -1,9 +1,10 @@
-//! The library and the model side by side: random calls on files and records,
-//! and a difference as a case that can be saved and replayed.
+//! The library and the model side by side: random calls on files, records and
+//! readers, and a difference as a case that can be saved and replayed.
 
 pub mod calls;
 pub mod columns;
 pub mod comparison;
+pub mod feeds;
 pub mod mutants;
 pub mod records;
 pub mod saved;
@@ -17,7 +18,8 @@ use crate::calls::Answer;
 pub struct Counts {
     pub files: usize,
     pub records: usize,
-    /// The calls by their answer: those done, then refusals 1 to 11.
+    pub sessions: usize,
+    /// The calls by their answer: those not refused, then refusals 1 to 11.
     pub answers: [usize; 12],
 }
 
@@ -28,7 +30,7 @@ impl Counts {
 
     pub fn count(&mut self, answer: Answer) {
         let number = match answer {
-            Answer::Accepted { .. } | Answer::Done => 0,
+            Answer::Accepted { .. } | Answer::Done | Answer::More => 0,
             Answer::Refused { number, .. } => number,
         };
         self.answers[usize::from(number)] += 1;
@@ -39,6 +41,7 @@ impl AddAssign for Counts {
     fn add_assign(&mut self, other: Counts) {
         self.files += other.files;
         self.records += other.records;
+        self.sessions += other.sessions;
         for (sum, count) in self.answers.iter_mut().zip(other.answers) {
             *sum += count;
         }

@@ -24,20 +24,19 @@ pub fn save(difference: &Difference, folder: &Path) -> String {
 
 pub fn to_text(case: &Case) -> String {
     let mut text = format!("call {}\n", name(case.call));
-    let words = case.buffers.column.contents.get();
-    if !words.is_empty() {
-        let words: Vec<String> = words.iter().map(|word| format!("{word:016x}")).collect();
-        let _ = writeln!(text, "contents {}", words.join(" "));
-    }
-    for (name, lent) in case.buffers.bytes() {
-        if !lent.get().is_empty() {
-            let digits: String = lent
-                .get()
-                .iter()
-                .map(|byte| format!("{byte:02x}"))
-                .collect();
-            let _ = writeln!(text, "{name} {digits}");
-        }
+    let words = |lent: &Lent<u64>| {
+        let words = lent.get().iter().map(|word| format!("{word:016x}"));
+        words.collect::<Vec<String>>().join(" ")
+    };
+    let digits = |lent: &Lent<u8>| {
+        let digits = lent.get().iter().map(|byte| format!("{byte:02x}"));
+        digits.collect::<String>()
+    };
+    let of_words = case.buffers.words().map(|(name, lent)| (name, words(lent)));
+    let of_bytes = case.buffers.bytes().map(|(name, lent)| (name, digits(lent)));
+    let lines = of_words.into_iter().chain(of_bytes);
+    for (name, cells) in lines.filter(|(_, cells)| !cells.is_empty()) {
+        let _ = writeln!(text, "{name} {cells}");
     }
     text
 }
@@ -53,6 +52,7 @@ pub fn name(call: Call) -> String {
         Call::EditTable { table, word } => format!("edit_table {table} {word}"),
         Call::ReadRecord { n, m } => format!("read_record {n} {m}"),
         Call::WriteRecord { n, m } => format!("write_record {n} {m}"),
+        Call::Feed { last } => format!("feed {last}"),
     }
 }
 
@@ -103,13 +103,18 @@ fn parse_call(text: &str) -> Option<Call> {
         }
         ("read_record", &[n, m]) => Call::ReadRecord { n, m },
         ("write_record", &[n, m]) => Call::WriteRecord { n, m },
+        ("feed", &[last]) => {
+            let last = u8::try_from(last).ok()?;
+            Call::Feed { last }
+        }
         _ => return None,
     })
 }
 
 /// The buffers; what no line has is empty.
 fn parse_buffers(lines: &mut BTreeMap<&str, &str>) -> Result<Buffers, String> {
-    let words = lines.remove("contents").map_or(Ok(vec![]), parse_words)?;
+    let contents = lines.remove("contents").map_or(Ok(vec![]), parse_words)?;
+    let state = lines.remove("state").map_or(Ok(vec![]), parse_words)?;
     let mut bytes = |name| {
         let bytes = lines.remove(name).map_or(Ok(vec![]), parse_bytes)?;
         Ok::<Lent<u8>, String>(Lent::bytes(&bytes))
@@ -117,7 +122,7 @@ fn parse_buffers(lines: &mut BTreeMap<&str, &str>) -> Result<Buffers, String> {
     Ok(Buffers {
         column: Workbench {
             file: bytes("file")?,
-            contents: Lent::words(&words),
+            contents: Lent::words(&contents),
             flops: bytes("flops")?,
             inputs: bytes("inputs")?,
             values: bytes("values")?,
@@ -125,6 +130,9 @@ fn parse_buffers(lines: &mut BTreeMap<&str, &str>) -> Result<Buffers, String> {
         record: bytes("record")?,
         body: bytes("body")?,
         part: bytes("part")?,
+        state: Lent::words(&state),
+        store: bytes("store")?,
+        run: bytes("run")?,
     })
 }
 

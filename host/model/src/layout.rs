@@ -77,12 +77,12 @@ pub fn header(tag: u8, body: usize) -> [u8; HEADER] {
 }
 
 /// The length of a file of n slices.
-pub fn file_length(n: usize) -> usize {
+pub const fn file_length(n: usize) -> usize {
     record_start(n) + END_RECORD
 }
 
 /// The offset of a slice record; with `number` = n, that of the end record.
-pub fn record_start(number: usize) -> usize {
+pub const fn record_start(number: usize) -> usize {
     SIZE_RECORD + SLICE_RECORD * number
 }
 

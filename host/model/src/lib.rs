@@ -8,6 +8,7 @@ pub mod edge;
 pub mod graph;
 pub mod input;
 pub mod layout;
+pub mod reader;
 pub mod records;
 pub mod rules;
 pub mod simulate;

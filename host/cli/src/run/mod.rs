@@ -3,7 +3,6 @@
 mod csv;
 mod edits;
 pub mod inputs;
-mod progress;
 mod table;
 mod vcd;
 mod watch;
@@ -16,11 +15,11 @@ use quagmuffin::{Accepted, Answer, Column, Refused};
 use crate::args::Run;
 use crate::failure::{Failure, Outcome};
 use crate::output::{Sink, Used};
+use crate::progress::Progress;
 use crate::source::{self, Design};
 use csv::Csv;
 use edits::{Edit, Edits};
 use inputs::Inputs;
-use progress::Progress;
 use table::Table;
 use vcd::Vcd;
 
@@ -39,7 +38,7 @@ pub fn run(words: &Run) -> Outcome<u8> {
     let inputs = Inputs::read(&words.stimulus, &design.names, column.size().m)?;
     let edits = Edits::read(words, &design.names, &column, inputs.clocks)?;
     let mut outputs = outputs(words, &design, column.size())?;
-    let mut progress = Progress::new(inputs.clocks, !writes_to_terminal(words));
+    let mut progress = Progress::of_clocks(inputs.clocks, !writes_to_terminal(words));
     for clock in 0..inputs.clocks {
         inputs.set(clock, column.inputs_mut());
         clocked(&mut column, edits.before(clock)).map_err(|refused| not_run(clock, refused))?;
