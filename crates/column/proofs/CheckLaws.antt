@@ -10,7 +10,7 @@ use Rattle.slicefile.specs.Format.{sliceTag, recordLength, sliceCount, inputCou
 use Rattle.framing.specs.Framing.{headerRefusal, sliceRefusal, sizeRefusal}
 use Rattle.framing.proofs.RecordLaws.{slice-whole}
 use Rattle.column.specs.File.{recordStart}
-use Rattle.column.specs.Check.{firstBad, checkEnd, checkSlices, checkFile, checkFrom, stopAt, passSlices, passedFrom}
+use Rattle.column.specs.Check.{firstBad, checkEnd, checkSlices, checkFile, checkFrom, stopAt, passSlices, passedFrom, GoodBelow}
 use Rattle.column.specs.declared.Checked.{Checked}
 use Rattle.column.specs.declared.Checked.the-variants.{Bad}
 use Rattle.column.proofs.Places.{size-inside, start-first, start-next}
@@ -126,24 +126,20 @@ module _ (file : List ℕ) where
   unfolding checkFrom checkFile
   from-start = rw (sub-zero, start-first file)
 
-  -- the records of the slices below a number are good
-  abbrev pub GoodBelow : ℕ → Type 0
-  GoodBelow s = (i : ℕ) → i < s → sliceRefusal n m i (drop (recordStart file i) file) ≡ 0
-
   -- ---- "the first bad record decides", at its first byte
   module _ (begins : sizeRefusal file ≡ 0) where
     -- behind good slices the check of the file stands at the next
-    pub after-good : (s : ℕ) → s ≤ n → GoodBelow s → Stands 0 s (recordStart file s)
+    pub after-good : (s : ℕ) → s ≤ n → GoodBelow file s → Stands 0 s (recordStart file s)
     after-good zero l good = taken-up begins 0 (rw (start-first file) (size-inside file begins))
     after-good (suc s) l good =
         let one : suc s ≡ s + 1 = omega arith in
         rw (one, start-next file s) (slice-good (after-good s (omega arith) (λ i h. good i (omega arith))) (omega arith) refl (good s (omega arith)))
 
     -- the first bad slice is refused where its record begins
-    pub slice-refused : (s : ℕ) → s < n → GoodBelow s
+    pub slice-refused : (s : ℕ) → s < n → GoodBelow file s
         → let at = recordStart file s in let k = sliceRefusal n m s (drop at file) in (k ≡ 0 → ⊥) → checkFile file ≡ Bad k at
     slice-refused s l good bad = sym (slice-bad (after-good s (omega arith) good) l refl bad .0 ∙ from-start)
 
     -- and after good slices the end record decides
-    pub end-decides : GoodBelow n → let at = recordStart file n in checkFile file ≡ checkEnd n m at (drop at file)
+    pub end-decides : GoodBelow file n → let at = recordStart file n in checkFile file ≡ checkEnd n m at (drop at file)
     end-decides good = sym (slices-end (after-good n (omega arith) good) (omega arith) .0 ∙ from-start)

@@ -3,6 +3,8 @@ pub mod CheckLaws
 pub mod SoundLaws
 pub mod Verdicts
 pub mod PrefixLaws
+pub mod Resuming
+pub mod Bounds
 pub mod Certificates
 pub mod Runs
 pub mod Netlist

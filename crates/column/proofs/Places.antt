@@ -53,3 +53,8 @@ module _ (file : List ℕ) where
   pub length-stays : (x : List ℕ) → sizeLength (file ++ x) ≡ sizeLength file
   unfolding sizeLength
   length-stays x = refl
+
+  -- nor its other records
+  pub start-stays : (x : List ℕ) (s : ℕ) → recordStart (file ++ x) s ≡ recordStart file s
+  unfolding recordStart sliceTagOf sizeLength
+  start-stays x s = refl

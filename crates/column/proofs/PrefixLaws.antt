@@ -107,10 +107,10 @@ slices-cut n m (suc left) s place bytes e =
 
 module _ (file x : List ℕ) where
   -- n and m stand in a whole size record
-  count-stays : sizeRefusal file ≡ 0 → sliceCount (file ++ x) ≡ sliceCount file
+  pub count-stays : sizeRefusal file ≡ 0 → sliceCount (file ++ x) ≡ sliceCount file
   count-stays z = List·getD-append file x 0 3 (omega (arith, size-whole file z))
 
-  inputs-stay : sizeRefusal file ≡ 0 → inputCount (file ++ x) ≡ inputCount file
+  pub inputs-stay : sizeRefusal file ≡ 0 → inputCount (file ++ x) ≡ inputCount file
   inputs-stay z = List·getD-append file x 0 4 (omega (arith, size-whole file z))
 
   -- a refusal other than 1 is certain from the bytes seen

@@ -1,5 +1,5 @@
 -- Refusals 1 to 8 of a whole file: "the first bad record decides".
-use Prim.Native.Nat.{ℕ, zero, suc, _+_, _-_}
+use Prim.Native.Nat.{ℕ, zero, suc, _+_, _-_, _≤_, _<_}
 use mathlib.Core.Path.{_≡_}
 use mathlib.Core.List.{List}
 use lib.Dec.{ltb}
@@ -56,6 +56,16 @@ unfoldable pub passedFrom : ℕ → List ℕ → ℕ
 passedFrom s file =
     let n = sliceCount file in
     stopAt (sizeRefusal file) s (passSlices n (inputCount file) (n - s) s (drop (recordStart file s) file))
+
+-- the records of the slices below a number are good
+abbrev pub GoodBelow : List ℕ → ℕ → Type 0
+GoodBelow file s = (i : ℕ) → i < s → sliceRefusal (sliceCount file) (inputCount file) i (drop (recordStart file i) file) ≡ 0
+
+-- so many slices of a file have passed, and the size record before them
+pub record Passed (file : List ℕ) (count : ℕ) : Type 0 where
+  pub begins : 0 < count → sizeRefusal file ≡ 0
+  pub within : count ≤ sliceCount file
+  pub good : GoodBelow file count
 
 -- a file of n slices and m outside inputs whose records are all good
 abbrev pub IsSound : List ℕ → ℕ → ℕ → Type 0

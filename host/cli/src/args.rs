@@ -31,7 +31,7 @@ pub enum Command {
         #[arg(value_name = "FILE", required = true)]
         files: Vec<PathBuf>,
     },
-    /// Judge a file that comes in pieces, from a pipe or a serial line, at the first byte that settles it
+    /// Judge a file as it comes, over a pipe or a serial line, and refuse it as soon as that is certain
     #[command(after_help = RECEIVE)]
     Receive(Receive),
     /// Say in words what is wrong with a file, and where: every fault, the judge's first
@@ -101,7 +101,7 @@ fn seconds(word: &str) -> Result<Duration, String> {
 }
 
 const RECEIVE: &str =
-    "A refusal from 2 to 8 is said at the first byte at which it is certain, and no more is waited for; standard error has the number of bytes up to it. What depends on the end is said there: accepted, 1 or 9.
+    "A refusal from 2 to 8 is said at the first byte at which it is certain, and no more is waited for; standard error says how many bytes that took. `accepted`, 1 and 9 are said at the end, as one more byte could change them.
 
 A serial line has no end: --idle gives it one. stty sets its speed, and raw, so that no byte is changed or left out. What is typed at a terminal ends with Ctrl-D.
 

@@ -6,11 +6,21 @@ use std::collections::BTreeMap;
 use std::fmt::Write;
 use std::path::Path;
 
+use testkit::run::differences_folder;
 use workbench::lent::Lent;
 use workbench::Workbench;
 
 use crate::calls::{Buffers, Call};
-use crate::comparison::{Case, Difference};
+use crate::comparison::{Case, Compared, Difference};
+use crate::Counts;
+
+/// What was compared, where nothing differs; a difference is saved, and told in a panic.
+pub fn agreed(compared: Compared<Counts>) -> Counts {
+    match compared {
+        Ok(counts) => counts,
+        Err(difference) => panic!("{}", save(&difference, &differences_folder())),
+    }
+}
 
 /// Writes a difference's case to a folder, and says where and what it is.
 pub fn save(difference: &Difference, folder: &Path) -> String {

@@ -2,22 +2,13 @@
 
 use calls::{read_record, write_record};
 use differential::calls::{by_library, Answer, Buffers, Call, Model};
-use differential::comparison::{Compared, Sides};
-use differential::saved::save;
-use differential::{columns, records, Counts};
+use differential::comparison::Sides;
+use differential::saved::agreed;
+use differential::{columns, records};
 use model::layout::*;
 use model::Workings;
 use testkit::random::{seed, times};
-use testkit::run::differences_folder;
 use testkit::traps;
-
-/// What was compared, where nothing differs.
-fn agreed(compared: Compared<Counts>) -> Counts {
-    match compared {
-        Ok(counts) => counts,
-        Err(difference) => panic!("{}", save(&difference, &differences_folder())),
-    }
-}
 
 /// The library and the model of record calls.
 const SIDES: Sides = Sides {

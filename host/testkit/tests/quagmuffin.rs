@@ -294,7 +294,7 @@ fn help_while_there_is_no_program() {
         let output = run(&copy, &[word]);
         let text = String::from_utf8_lossy(&output.stdout).into_owned();
         assert!(text.starts_with("usage: quagmuffin COMMAND "), "{text}");
-        let commands = "\nCommands: judge explain show write run diff verilog completions\n";
+        let commands = "\nCommands: judge receive explain show write run diff verilog completions\n";
         assert!(text.contains(commands), "{text}");
         assert_writes(&output, 0, &text);
     }
@@ -309,15 +309,26 @@ fn help_while_there_is_no_program() {
 #[test]
 fn closed_input() {
     let copy = built("closed");
-    let run = |word: &str| {
-        let line = format!("exec bash root/quagmuffin run 0 {word} <&-");
+    let run = |words: &str| {
+        let line = format!("exec bash root/quagmuffin {words} <&-");
         let mut closed = Command::new("sh");
         closed.args(["-c", &line]).current_dir(&copy.folder);
         closed.env("DEBIAN_CRATES", copy.folder.join("registry"));
         closed.output().expect("sh")
     };
-    assert_fails(&run("-"), "quagmuffin: standard input: is closed\n");
-    assert_eq!(run("file").status.code(), Some(0));
+    for words in [
+        "run 0 -",
+        "receive",
+        "receive -",
+        "receive -o file --idle 2",
+        "receive --output file --idle=2 -",
+    ] {
+        assert_fails(&run(words), "quagmuffin: standard input: is closed\n");
+    }
+    for words in ["run 0", "run 0 file", "receive 0", "receive --help"] {
+        let said = run(words).stderr;
+        assert_eq!(String::from_utf8_lossy(&said), "", "{words}");
+    }
 }
 
 /// Where the proof fails nothing is built, and the old program is not run.

@@ -54,7 +54,7 @@ pub fn receive(words: &Receive) -> Outcome<u8> {
 
 /// A silence is an end from the first byte on: before it the sender may not have begun.
 fn received(file: File, idle: Option<Duration>, progress: &mut Progress) -> io::Result<Received> {
-    let pieces = Pieces::of(file);
+    let pieces = Pieces::of(file)?;
     let mut reader = Reader::new();
     let mut bytes = vec![];
     loop {

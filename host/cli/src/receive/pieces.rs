@@ -3,7 +3,7 @@
 use std::fs::File;
 use std::io::{self, ErrorKind, Read};
 use std::sync::mpsc::{channel, Receiver, RecvTimeoutError, Sender};
-use std::thread::spawn;
+use std::thread::Builder;
 use std::time::{Duration, Instant};
 
 use crate::progress::PATIENCE;
@@ -18,23 +18,22 @@ pub struct Pieces {
 }
 
 impl Pieces {
-    pub fn of(mut file: File) -> Pieces {
+    pub fn of(mut file: File) -> io::Result<Pieces> {
         let (ask, asked) = channel();
         let (send, come) = channel();
-        spawn(move || {
-            let pieces = asked.into_iter().map(|()| next_of(&mut file));
-            // What nobody waits for any more is left alone.
-            pieces
-                .map(|piece| send.send(piece))
-                .all(|sent| sent.is_ok())
-        });
-        Pieces { ask, come }
+        Builder::new().spawn(move || {
+            for () in asked {
+                // Where nobody waits any more, nobody asks any more.
+                let _ = send.send(next_of(&mut file));
+            }
+        })?;
+        Ok(Pieces { ask, come })
     }
 
     /// The next piece; an empty one where there are no more, or where nothing came for the time `idle`. Now and then while it waits it calls `waiting`.
     pub fn next(&self, idle: Option<Duration>, mut waiting: impl FnMut()) -> io::Result<Vec<u8>> {
-        let gone = |_| io::Error::other("its reader is gone");
-        self.ask.send(()).map_err(gone)?;
+        // Where the thread is gone the wait says so.
+        let _ = self.ask.send(());
         let start = Instant::now();
         loop {
             let left = idle.map_or(PATIENCE, |idle| idle.saturating_sub(start.elapsed()));
@@ -42,7 +41,7 @@ impl Pieces {
                 Ok(piece) => return piece,
                 Err(RecvTimeoutError::Timeout) if left.is_zero() => return Ok(vec![]),
                 Err(RecvTimeoutError::Timeout) => waiting(),
-                Err(RecvTimeoutError::Disconnected) => return Err(gone(())),
+                Err(gone @ RecvTimeoutError::Disconnected) => return Err(io::Error::other(gone)),
             }
         }
     }

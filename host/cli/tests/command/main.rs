@@ -3,6 +3,7 @@
 mod examples;
 mod folder;
 mod inputs;
+mod receive;
 mod run;
 mod texts;
 mod tour;

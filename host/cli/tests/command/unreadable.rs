@@ -9,8 +9,9 @@ use testkit::command::{assert_fails, assert_says};
 use crate::folder::{example, Folder};
 
 /// The words of all that reads a file, which is called BAD.
-const READERS: [&[&str]; 10] = [
+const READERS: [&[&str]; 11] = [
     &["judge", "BAD"],
+    &["receive", "BAD"],
     &["explain", "BAD"],
     &["show", "BAD"],
     &["write", "BAD", "-o", "new"],

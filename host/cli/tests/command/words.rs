@@ -7,8 +7,9 @@ use testkit::run::repository;
 
 use crate::folder::{written, Folder};
 
-const COMMANDS: [&str; 8] = [
+const COMMANDS: [&str; 9] = [
     "judge",
+    "receive",
     "explain",
     "show",
     "write",
@@ -52,7 +53,7 @@ fn completions_know_the_commands() {
     let folder = Folder::new("completions");
     for shell in ["bash", "elvish", "fish", "powershell", "zsh"] {
         let script = folder.text(&["completions", shell]);
-        for word in COMMANDS.iter().chain(&["clocks", "watch", "vcd"]) {
+        for word in COMMANDS.iter().chain(&["clocks", "watch", "vcd", "idle"]) {
             assert!(script.contains(word), "{shell}: {word}");
         }
     }
@@ -65,12 +66,18 @@ fn completions_know_the_commands() {
 #[test]
 fn wrong_words_get_one_line() {
     let folder = Folder::with_files("words");
-    let words: [&[&str]; 18] = [
+    let words: [&[&str]; 24] = [
         &[],
         &["x"],
         &["--x"],
         &["judge"],
         &["judge", "--x", "z"],
+        &["receive", "z", "z"],
+        &["receive", "z", "-o"],
+        &["receive", "z", "--idle", "0"],
+        &["receive", "z", "--idle", "86401"],
+        &["receive", "z", "--idle", "nan"],
+        &["receive", "z", "--idle", "2 s"],
         &["explain", "z", "z"],
         &["show", "z", "--slice", "x"],
         &["show", "z", "--slice"],
@@ -97,8 +104,9 @@ fn wrong_words_get_one_line() {
 #[test]
 fn full_output() {
     let folder = Folder::with_files("full");
-    let words: [&[&str]; 6] = [
+    let words: [&[&str]; 7] = [
         &["judge", "z"],
+        &["receive", "z"],
         &["explain", "z"],
         &["show", "z"],
         &["run", "z"],
@@ -113,8 +121,12 @@ fn full_output() {
             "quagmuffin: standard output: No space",
         );
     }
-    for words in [&["--vcd", "/dev/full"], &["--csv", "/dev/full"]] {
-        let output = folder.run(&[&["run", "z"], &words[..]].concat());
+    for words in [
+        ["run", "z", "--vcd", "/dev/full"],
+        ["run", "z", "--csv", "/dev/full"],
+        ["receive", "z", "-o", "/dev/full"],
+    ] {
+        let output = folder.run(&words);
         assert_fails(&output, "quagmuffin: /dev/full: No space");
     }
 }

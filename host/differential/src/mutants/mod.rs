@@ -1,9 +1,10 @@
 //! Wrong models, each with one mistake that looks reasonable: in running a
-//! column here, in the record calls in `records`. None makes a signal read what
+//! column here, in the record calls in `records`, in a reader's in `feeds`. None makes a signal read what
 //! the paper's doesn't depend on, since that could loop.
 
 mod edges;
 mod edits;
+pub mod feeds;
 pub mod records;
 mod signals;
 
