@@ -4,7 +4,7 @@ use mathlib.Core.Path.{_≡_, _∙_, refl, sym, ap, subst}
 use mathlib.Core.Logic.{_⊎_, inl, inr, ⊎-elim}
 use mathlib.Core.Bool.{Bool, true, false}
 use mathlib.Core.List.{List, _++_}
-use Prim.Native.Nat.{ℕ, zero, suc, _+_, _*_, _<_}
+use Prim.Native.Nat.{ℕ, zero, suc, _+_, _*_, _≤_, _<_}
 use native.Mathlib.Decide.{decLt}
 use native.Mathlib.Omega.{arith}
 use borrow.Author.Tests.{lt-ltb, ltb-true}
@@ -23,6 +23,7 @@ use Rattle.column.specs.Judge.{Judged, bad, accepted, loop}
 use Rattle.column.specs.declared.Checked.{Checked}
 use Rattle.column.specs.declared.Checked.the-variants.{Bad, Sound}
 use Rattle.column.specs.declared.Verdict.{Verdict}
+use Rattle.column.specs.declared.Verdict.the-variants.{Refused}
 use Rattle.column.proofs.Places.{start-from, file-within, size-inside, length-stays}
 use Rattle.column.proofs.CheckLaws.{bad-first, good-first}
 use Rattle.column.proofs.SoundLaws.{sound-first, sound-file}
@@ -146,10 +147,17 @@ check-cut file e =
 too-long : (file : List ℕ) {n m : ℕ} → fileLimit < length file → checkFile file ≡ Sound n m → ⊥
 too-long file {n} long e = let f = sound-file file e in omega (arith, f .size, file-within file n (f .slices-fit))
 
--- bytes enough for the longest file and one more are refused, by a number other than 1
-decided : (start rest : List ℕ) {v : Verdict} → fileLimit < length start → Judged start v → Judged (start ++ rest) v
-decided start rest long (bad {k} {p} e) =
+-- bytes enough for the longest file: a refusal stays, and a sound file is the longest, so that more bytes are refused behind it
+pub full-bad : (start rest : List ℕ) {k p : ℕ} → fileLimit ≤ length start → checkFile start ≡ Bad k p → Judged (start ++ rest) (Refused k p)
+full-bad start rest {k} {p} long e =
     bad (check-stays start rest (λ z. omega (arith, check-cut start (subst (λ (j : ℕ). checkFile start ≡ Bad j p) z e))) e)
+
+pub full-over : (start rest : List ℕ) {n m : ℕ} → length start ≡ fileLimit → 0 < length rest → checkFile start ≡ Sound n m → Judged (start ++ rest) (Refused 8 fileLimit)
+full-over start rest full some e = bad (rw full at (check-over start rest some e))
+
+-- one byte more than that decides
+decided : (start rest : List ℕ) {v : Verdict} → fileLimit < length start → Judged start v → Judged (start ++ rest) v
+decided start rest long (bad e) = full-bad start rest (omega arith) e
 decided start rest long (accepted e free) = absurd (too-long start long e)
 decided start rest long (loop e below on least) = absurd (too-long start long e)
 

@@ -1,7 +1,7 @@
 //! The library's calls, and the second program's, on one file.
 
-use ::calls::Answer;
-use model::{Simulator, Verdict, Workings};
+use ::calls::{Answer, Verdict, STATE, STORE};
+use model::{Simulator, Workings};
 use std::hint::black_box;
 
 #[derive(Clone, Copy, Debug, PartialEq)]
@@ -14,10 +14,11 @@ pub enum Call {
     PowerUp,
     ReadRecord,
     WriteRecord,
+    Feed,
 }
 
 impl Call {
-    pub const ALL: [Call; 8] = [
+    pub const ALL: [Call; 9] = [
         Call::Judge,
         Call::Settle,
         Call::Clock,
@@ -26,6 +27,7 @@ impl Call {
         Call::PowerUp,
         Call::ReadRecord,
         Call::WriteRecord,
+        Call::Feed,
     ];
 
     /// Those with an aim for their time.
@@ -41,6 +43,7 @@ impl Call {
             Call::PowerUp => "power up",
             Call::ReadRecord => "read record",
             Call::WriteRecord => "write record",
+            Call::Feed => "feed",
         }
     }
 }
@@ -55,6 +58,7 @@ pub struct Bench {
     values: Vec<u8>,
     record: Vec<u8>,
     body: Vec<u8>,
+    store: Vec<u8>,
 }
 
 impl Bench {
@@ -71,13 +75,19 @@ impl Bench {
             body: record[3..].to_vec(),
             record,
             file,
+            store: vec![0; STORE],
         };
         bench.model(Call::PowerUp);
         bench.model(Call::Settle);
         bench
     }
 
-    /// Calls the library. Edits change input 0 and table 0, each time to another value.
+    /// The bytes of the file.
+    pub fn length(&self) -> usize {
+        self.file.len()
+    }
+
+    /// Calls the library. Edits change input 0 and table 0, each time to another value. A reader is fed the file and its end at once.
     pub fn library(&mut self, call: Call) -> Answer {
         let Bench {
             file,
@@ -87,6 +97,7 @@ impl Bench {
             values,
             record,
             body,
+            store,
         } = self;
         let (n, m) = (flops.len(), inputs.len());
         match call {
@@ -104,13 +115,23 @@ impl Bench {
             Call::PowerUp => ::calls::power_up(file, contents, flops),
             Call::ReadRecord => ::calls::read_record(record, n, m, body),
             Call::WriteRecord => ::calls::write_record(body, n, m, record),
+            Call::Feed => heard(::calls::feed(&mut [0; STATE], store, file, 1)),
         }
+    }
+
+    /// Feeds the file to a fresh reader in runs of so many bytes, and ends it.
+    pub fn feed_in_runs(&mut self, length: usize) -> Answer {
+        let mut state = [0; STATE];
+        for run in self.file.chunks(length) {
+            heard(::calls::feed(&mut state, &mut self.store, run, 0))?;
+        }
+        heard(::calls::feed(&mut state, &mut self.store, &[], 1))
     }
 
     /// Calls the second program, which is given the file anew in every call, as the library is.
     pub fn model(&mut self, call: Call) -> bool {
         if call == Call::Judge {
-            return matches!(model::judge(&self.file), Verdict::Accepted { .. });
+            return matches!(model::judge(&self.file), model::Verdict::Accepted { .. });
         }
         let column = Simulator::new(Workings::paper(), &self.file);
         let (contents, flops) = (&mut self.contents, &mut self.flops);
@@ -133,10 +154,22 @@ impl Bench {
     }
 }
 
+/// What a reader said, if it refused.
+fn heard(verdict: Option<Verdict>) -> Answer {
+    verdict.map_or(Ok(()), |verdict| verdict.map(|_| ()))
+}
+
 /// A call of the library, to be timed.
 pub fn on_library(mut bench: Bench, call: Call) -> Box<dyn FnMut()> {
     Box::new(move || {
         let _ = black_box(bench.library(call));
+    })
+}
+
+/// The calls of the library that take a file in runs of so many bytes, to be timed.
+pub fn on_runs(mut bench: Bench, length: usize) -> Box<dyn FnMut()> {
+    Box::new(move || {
+        let _ = black_box(bench.feed_in_runs(length));
     })
 }
 

@@ -1,7 +1,7 @@
 //! How long each call of the library takes on columns of 1 to 64 slices, and how much stack. Nothing here passes or fails.
 //! Given a call and a column, makes that call once, for a profiler.
 
-use bench::calls::{on_library, on_model, Bench, Call};
+use bench::calls::{on_library, on_model, on_runs, Bench, Call};
 use bench::columns::{self, NAMED};
 use bench::stack::depth;
 use bench::timing::{Spread, Times, ROUNDS, RUN};
@@ -9,6 +9,10 @@ use std::hint::black_box;
 use std::process::ExitCode;
 
 const SIZES: [usize; 7] = [1, 2, 4, 8, 16, 32, 64];
+/// The sizes of columns that are fed byte by byte.
+const FED: [usize; 3] = [16, 32, 64];
+/// The lengths of runs in which a file is fed.
+const RUNS: [usize; 3] = [1, 64, 1024];
 
 fn main() -> ExitCode {
     let words = std::env::args_os().skip(1);
@@ -40,6 +44,9 @@ fn report() {
     full_column("irregular");
     judged_files();
     growth();
+    fed("deep");
+    fed("irregular");
+    fed_growth();
     stack();
 }
 
@@ -137,6 +144,37 @@ fn growth() {
         let first = SIZES.len() * k;
         let growth = times.ratio(first + SIZES.len() - 1, first);
         line(call.name(), growth.scaled(1.0 / 64.0), 2, "");
+    }
+}
+
+/// A full column fed to a reader in runs, with the end, beside the judge on its file.
+fn fed(name: &str) {
+    let bench = named(name);
+    let runs = RUNS.map(|length| on_runs(bench.clone(), length));
+    let judge = on_library(bench.clone(), Call::Judge);
+    let times = Times::of([judge].into_iter().chain(runs).collect());
+    let runs = RUNS.map(|length| format!("feed in runs of {length}"));
+    println!("\n{name}, 64 slices: nanoseconds a byte");
+    let byte = 1e3 / bench.length() as f64;
+    line("judge", times.call(0).scaled(byte), 2, "");
+    for (i, run) in runs.iter().enumerate() {
+        line(run, times.call(i + 1).scaled(byte), 2, "");
+    }
+    println!("times the judge");
+    for (i, run) in runs.iter().enumerate() {
+        line(run, times.ratio(i + 1, 0), 2, "");
+    }
+}
+
+/// The deep column of some sizes fed byte by byte.
+fn fed_growth() {
+    let benches = FED.map(|n| Bench::new(columns::deep(n).bytes()));
+    let timed = benches.clone().map(|bench| on_runs(bench, 1));
+    let times = Times::of(timed.into_iter().collect());
+    println!("\ndeep, fed byte by byte, by slices: nanoseconds a byte");
+    for (i, n) in FED.iter().enumerate() {
+        let byte = 1e3 / benches[i].length() as f64;
+        line(&n.to_string(), times.call(i).scaled(byte), 2, "");
     }
 }
 

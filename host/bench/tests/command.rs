@@ -12,6 +12,7 @@ fn bench(words: &[&str]) -> Output {
 #[test]
 fn makes_one_call() {
     assert_writes(&bench(&["edit input", "irregular"]), 0, "Ok(())\n");
+    assert_writes(&bench(&["feed", "deep"]), 0, "Ok(())\n");
 }
 
 #[test]

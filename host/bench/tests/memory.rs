@@ -22,6 +22,20 @@ fn no_call_uses_more_than_256_kb_of_stack() {
     }
 }
 
+/// The same for a file that comes in runs.
+#[test]
+fn no_feeding_uses_more_than_256_kb_of_stack() {
+    for (name, column) in NAMED {
+        for length in [1, 64, 1024] {
+            let mut bench = Bench::new(column(64).bytes());
+            let bytes = depth(|| {
+                let _ = black_box(bench.feed_in_runs(length));
+            });
+            assert!(bytes <= STACK_LIMIT, "{name} by {length}: {bytes} bytes");
+        }
+    }
+}
+
 /// The measure itself: a frame with an array of a known size is seen.
 #[test]
 fn stack_that_is_used_is_seen() {

@@ -67,8 +67,12 @@ fn difference(library: &Outcome, model: &Outcome) -> Option<String> {
 
 fn guard_written(buffers: &Buffers) -> Option<String> {
     let written = |name: &str| format!("the library wrote beside the {name}");
-    let words = buffers.words().map(|(name, lent)| (name, lent.is_guarded()));
-    let bytes = buffers.bytes().map(|(name, lent)| (name, lent.is_guarded()));
+    let words = buffers
+        .words()
+        .map(|(name, lent)| (name, lent.is_guarded()));
+    let bytes = buffers
+        .bytes()
+        .map(|(name, lent)| (name, lent.is_guarded()));
     let mut guarded = words.into_iter().chain(bytes);
     let broken = guarded.find(|(_, guarded)| !guarded);
     broken.map(|(name, _)| written(name))

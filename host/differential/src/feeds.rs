@@ -2,12 +2,12 @@
 
 use ::calls::{STATE, STORE};
 use testkit::prng::Prng;
+use workbench::lent::Lent;
 
 use crate::calls::{Buffers, Call};
 use crate::columns::{far_number, junk, other_length};
 use crate::comparison::{Compared, Comparison, Sides};
 use crate::Counts;
-use workbench::lent::Lent;
 
 /// The most slices a file has: the state's second word counts them.
 const MOST_SLICES: usize = 64;
@@ -51,7 +51,11 @@ fn session(pair: &mut Comparison, rng: &mut Prng, file: &[u8]) -> Compared {
     let longest = *rng.pick(&[bytes.len() / 20 + 1, 200, 1_000, 20_000]);
     let mut rest = &bytes[..];
     while !rest.is_empty() {
-        let length = if rng.chance(15) { 0 } else { rng.from_to(1, longest) };
+        let length = if rng.chance(15) {
+            0
+        } else {
+            rng.from_to(1, longest)
+        };
         let (run, after) = rest.split_at(length.min(rest.len()));
         rest = after;
         let is_last = rest.is_empty() && rng.chance(50);
@@ -116,8 +120,8 @@ pub fn scribbled(rng: &mut Prng, file: &[u8]) -> Buffers {
         _ => rng.below(MOST_SLICES),
     };
     let given = match rng.below(8) {
-        0 => rng.number(),
-        1 => 1 << rng.below(64),
+        0 => rng.number() << 8 | rng.below(12) as u64,
+        1 => 1 << rng.from_to(8, 63),
         _ => 0,
     };
     let run = *rng.pick(&[0, 1, 3, 127, 300, 9_000]);
@@ -132,7 +136,7 @@ pub fn is_free(buffers: &Buffers) -> bool {
     in_range && buffers.state.get()[2] == 0 && kept as usize + run <= STORE
 }
 
-/// A fresh reader beside another, over other bytes than a file has.
+/// Two fresh readers, with a store that holds something else already.
 fn fresh<'a>(name: &str, sides: Sides<'a>) -> Comparison<'a> {
     let reader = Buffers::of_reader(&[0; STATE], &[7; STORE], &[]);
     Comparison::new(name.to_string(), sides, reader)
@@ -156,11 +160,9 @@ pub fn compare_cuts(file: &[u8], sides: Sides) -> Compared<Counts> {
 /// A file byte by byte up to its verdict, with some empty runs before each byte; the end comes after it.
 pub fn compare_bytes(file: &[u8], empty: usize, sides: Sides) -> Compared<Counts> {
     let mut pair = fresh("bytes", sides);
-    for byte in file {
-        let runs = [&[][..]].repeat(empty);
-        for run in runs.into_iter().chain([&[*byte][..]]) {
-            feed(&mut pair, run, 0)?;
-        }
+    let runs = |byte| [&[][..]].repeat(empty).into_iter().chain([byte]);
+    for run in file.chunks(1).flat_map(runs) {
+        feed(&mut pair, run, 0)?;
         if pair.buffers.state.get()[2] != 0 {
             break;
         }

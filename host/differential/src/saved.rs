@@ -43,7 +43,10 @@ pub fn to_text(case: &Case) -> String {
         digits.collect::<String>()
     };
     let of_words = case.buffers.words().map(|(name, lent)| (name, words(lent)));
-    let of_bytes = case.buffers.bytes().map(|(name, lent)| (name, digits(lent)));
+    let of_bytes = case
+        .buffers
+        .bytes()
+        .map(|(name, lent)| (name, digits(lent)));
     let lines = of_words.into_iter().chain(of_bytes);
     for (name, cells) in lines.filter(|(_, cells)| !cells.is_empty()) {
         let _ = writeln!(text, "{name} {cells}");

@@ -2,9 +2,9 @@
 
 use differential::calls::{by_library, Answer, Buffers, Call, Model};
 use differential::comparison::{Difference, Sides};
-use differential::{columns, records};
+use differential::{columns, feeds, records};
 use model::Workings;
-use testkit::random::seed;
+use testkit::random::{self, seed};
 use workbench::lent::Lent;
 
 type Broken = fn(Call, &mut Buffers) -> Answer;
@@ -79,8 +79,44 @@ const HANDED_ON: [(&str, Broken); 7] = [
     }),
 ];
 
+/// Wrappers of a reader's call that hand other things on.
+const FEEDS: [(&str, Broken); 5] = [
+    ("forgets the reader's state", |call, buffers| {
+        buffers.state.lend().fill(0);
+        by_library(call, buffers)
+    }),
+    ("writes the run at the store's start", |call, buffers| {
+        let answer = by_library(call, buffers);
+        if let Call::Feed { .. } = call {
+            put_first(buffers);
+        }
+        answer
+    }),
+    ("feeds a byte past the run", |call, buffers| {
+        let run = buffers.run.clone();
+        buffers.run = run.resized(run.get().len() + 1, 0xA5);
+        let answer = by_library(call, buffers);
+        buffers.run = run;
+        answer
+    }),
+    (
+        "never says that there is no more",
+        |call, buffers| match call {
+            Call::Feed { .. } => by_library(Call::Feed { last: 0 }, buffers),
+            _ => by_library(call, buffers),
+        },
+    ),
+    (
+        "always says that there is no more",
+        |call, buffers| match call {
+            Call::Feed { .. } => by_library(Call::Feed { last: 1 }, buffers),
+            _ => by_library(call, buffers),
+        },
+    ),
+];
+
 /// Wrappers that write.
-const STORES: [(&str, Broken); 5] = [
+const STORES: [(&str, Broken); 7] = [
     ("writes past the values", |call, buffers| {
         let answer = by_library(call, buffers);
         *past(&mut buffers.column.values) = 0;
@@ -94,6 +130,16 @@ const STORES: [(&str, Broken); 5] = [
     ("writes past the part", |call, buffers| {
         let answer = by_library(call, buffers);
         *past(&mut buffers.part) = 0;
+        answer
+    }),
+    ("writes past the state", |call, buffers| {
+        let answer = by_library(call, buffers);
+        *past(&mut buffers.state) = 0;
+        answer
+    }),
+    ("writes past the store", |call, buffers| {
+        let answer = by_library(call, buffers);
+        *past(&mut buffers.store) = 0;
         answer
     }),
     ("writes a value on refusal", |call, buffers| {
@@ -129,6 +175,13 @@ fn exchange(buffers: &mut Buffers) {
     std::mem::swap(&mut column.flops, &mut column.inputs);
 }
 
+/// Puts the run at the start of the store, as far as it fits.
+fn put_first(buffers: &mut Buffers) {
+    for (cell, byte) in buffers.store.lend().iter_mut().zip(buffers.run.get()) {
+        *cell = *byte;
+    }
+}
+
 /// The first cell of the guards after a buffer.
 fn past<T: Copy + PartialEq>(lent: &mut Lent<T>) -> &mut T {
     let length = lent.get().len();
@@ -137,32 +190,42 @@ fn past<T: Copy + PartialEq>(lent: &mut Lent<T>) -> &mut T {
     &mut cells[guards + length]
 }
 
+/// What the calls are made on: files, records, and files that come in runs.
+struct Subjects {
+    files: Vec<columns::Subject>,
+    records: Vec<records::Subject>,
+    fed: Vec<Vec<u8>>,
+}
+
 /// What the comparison says of a wrapper.
-fn found(broken: Broken, files: &[columns::Subject], some: &[records::Subject]) -> Vec<Difference> {
+fn found(broken: Broken, subjects: &Subjects) -> Vec<Difference> {
     let model = Model::of(&[]);
     let model = |call, buffers: &mut Buffers| model.call(call, buffers);
+    let sides = Sides::new(&broken, &model);
     let compared = [
-        columns::compare_all(files, &broken, Workings::paper(), seed()),
-        records::compare_all(some, Sides::new(&broken, &model), seed()),
+        columns::compare_all(&subjects.files, &broken, Workings::paper(), seed()),
+        records::compare_all(&subjects.records, sides, seed()),
+        feeds::compare_all(&subjects.fed, sides, seed()),
     ];
     let differences = compared.into_iter().filter_map(Result::err);
     differences.map(|difference| *difference).collect()
 }
 
+fn every_sixteenth<T>(all: Vec<T>) -> Vec<T> {
+    all.into_iter().step_by(16).collect()
+}
+
 /// A part of the files and records that the library is compared on is enough.
 #[test]
 fn every_broken_wrapper_is_caught() {
-    let files: Vec<_> = columns::subjects(seed(), 1)
-        .into_iter()
-        .step_by(16)
-        .collect();
-    let records: Vec<_> = records::subjects(seed(), 1)
-        .into_iter()
-        .step_by(16)
-        .collect();
-    let wrappers = [&ANSWERS[..], &HANDED_ON, &STORES].concat();
+    let subjects = Subjects {
+        files: every_sixteenth(columns::subjects(seed(), 1)),
+        records: every_sixteenth(records::subjects(seed(), 1)),
+        fed: every_sixteenth(random::files(seed(), 1)),
+    };
+    let wrappers = [&ANSWERS[..], &HANDED_ON, &FEEDS, &STORES].concat();
     for (name, broken) in &wrappers {
-        let found = found(*broken, &files, &records);
+        let found = found(*broken, &subjects);
         assert!(!found.is_empty(), "not caught: {name}");
         println!("{name}: {}", found[0].text);
     }
@@ -172,7 +235,11 @@ fn every_broken_wrapper_is_caught() {
 /// A guard is named that was written, though the answer and the buffers are right.
 #[test]
 fn a_written_guard_is_named() {
-    let files = [columns::Subject::new(0, testkit::column::z().bytes())];
-    let found = found(STORES[0].1, &files, &[]);
+    let subjects = Subjects {
+        files: vec![columns::Subject::new(0, testkit::column::z().bytes())],
+        records: vec![],
+        fed: vec![],
+    };
+    let found = found(STORES[0].1, &subjects);
     assert_eq!(found[0].text, "the library wrote beside the values");
 }

@@ -1,13 +1,16 @@
 //! Files that come in runs: the library's answers, state and store against the model's, after every call.
 
-use ::calls::{Refused, Verdict, STATE, STORE};
+use std::sync::LazyLock;
+
+use calls::{Refused, Verdict, STATE, STORE};
 use differential::calls::{by_library, Answer, Buffers, Call, Model};
 use differential::columns::junk;
 use differential::comparison::Sides;
 use differential::feeds::{compare_all, compare_bytes, compare_cuts, is_free, scribbled};
 use differential::saved::agreed;
 use differential::Counts;
-use std::sync::LazyLock;
+use model::reader::certain;
+use model::Rules;
 use testkit::column::{z, Column};
 use testkit::prng::Prng;
 use testkit::random::{files, seed, times};
@@ -73,49 +76,60 @@ fn random_runs_of_directed_files() {
     print(agreed(compare_all(&files, SIDES, 0)));
 }
 
-/// The answer at each byte, up to the earliest verdict or the end, of directed files and of some random ones.
+/// The answer at each byte up to the refusal, of short files that have one of 2 to 8, directed and random.
 #[test]
 fn answers_at_each_byte() {
     let mut counts = Counts::default();
     let directed = traps::all().into_iter().map(|case| case.file);
-    let random = files(seed(), times()).into_iter().step_by(11);
-    for file in directed.chain(random) {
+    let all = directed.chain(files(seed(), times()));
+    let short = all.filter(|file| file.len() < 2_000);
+    let refused = short.filter(|file| is_two_to_eight(calls::judge(file)));
+    for file in refused.step_by(4) {
         counts += agreed(compare_bytes(&file, 0, SIDES));
     }
     print(counts);
-    assert!(counts.answers[..10].iter().all(|&count| count >= 10));
-}
-
-/// How many bytes of a file a reader takes up to its verdict, if it gives one before the end.
-fn certain_at(file: &[u8]) -> Option<(usize, Verdict)> {
-    let (mut state, mut store) = ([0; STATE], [0; STORE]);
-    let mut bytes = file.iter().enumerate();
-    bytes.find_map(|(at, byte)| {
-        let heard = calls::feed(&mut state, &mut store, &[*byte], 0);
-        heard.map(|verdict| (at + 1, verdict))
-    })
+    assert!(counts.answers[2..=8].iter().all(|&count| count >= 10));
 }
 
 fn is_two_to_eight(verdict: Verdict) -> bool {
     matches!(verdict, Err(Refused { number: 2..=8, .. }))
 }
 
-/// What certain means, by the judge alone: at the verdict's byte nothing that may follow changes it, and a byte before, the end would make
-/// it another than 2 to 8.
+/// How many bytes of a file a reader takes up to its refusal, if it gives one before the end.
+fn certain_at(file: &[u8]) -> Option<(usize, Refused)> {
+    let (mut state, mut store) = ([0; STATE], [0; STORE]);
+    let mut bytes = file.iter().enumerate();
+    bytes.find_map(|(at, byte)| {
+        let heard = calls::feed(&mut state, &mut store, &[*byte], 0);
+        heard.map(|verdict| (at + 1, verdict.expect_err("accepted before the end")))
+    })
+}
+
+/// What certain means, by the judge: at the refusal's byte nothing that may follow changes it, and a byte before it, the end would make
+/// the verdict another than 2 to 8. The model finds the same byte.
+fn is_earliest(rng: &mut Prng, bytes: &[u8], refused: Refused) {
+    let (rules, before) = (Rules::paper(), &bytes[..bytes.len() - 1]);
+    assert!(is_two_to_eight(Err(refused)));
+    assert!(!is_two_to_eight(calls::judge(before)));
+    assert_eq!(certain(&rules, before), None);
+    let model = certain(&rules, bytes).map(|verdict| verdict.to_string());
+    assert_eq!(model, Some(refused.to_string()));
+    for follows in [0, 1, 2, 130, 8_200] {
+        let longer = [bytes, &junk(rng, follows)].concat();
+        assert_eq!(calls::judge(&longer), Err(refused));
+    }
+}
+
 #[test]
 fn certain_at_the_earliest_byte() {
     let (mut rng, mut early) = (Prng::new(seed()), 0);
     for file in files(seed(), times()) {
-        let Some((length, verdict)) = certain_at(&file) else {
-            assert!(!is_two_to_eight(calls::judge(&file)));
-            continue;
-        };
-        early += 1;
-        assert!(is_two_to_eight(verdict));
-        assert!(!is_two_to_eight(calls::judge(&file[..length - 1])));
-        for follows in [0, 1, 2, 130, 8_200] {
-            let bytes = [&file[..length], &junk(&mut rng, follows)].concat();
-            assert_eq!(calls::judge(&bytes), verdict);
+        match certain_at(&file) {
+            Some((length, refused)) => {
+                is_earliest(&mut rng, &file[..length], refused);
+                early += 1;
+            }
+            None => assert!(!is_two_to_eight(calls::judge(&file))),
         }
     }
     println!("{early} files");

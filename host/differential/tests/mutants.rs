@@ -5,9 +5,9 @@ use differential::calls::{by_library, Model};
 use differential::columns::{self, Subject};
 use differential::comparison::Sides;
 use differential::mutants::records::{others, readers, writers, Mutant};
-use differential::{mutants, records};
+use differential::{feeds, mutants, records};
 use model::Workings;
-use testkit::random::seed;
+use testkit::random::{files, seed};
 
 /// The same run as with the right model finds a difference for each wrong one.
 #[test]
@@ -57,6 +57,23 @@ fn every_wrong_writer_is_caught() {
 #[test]
 fn every_other_mutant_of_records_is_caught() {
     all_are_caught(others());
+}
+
+/// The same for the call that takes a file run by run.
+#[test]
+fn every_mutant_of_feeding_is_caught() {
+    let seed = seed();
+    let files = files(seed, 1);
+    let mutants = mutants::feeds::all();
+    let mut missed = vec![];
+    for (name, caller) in &mutants {
+        match feeds::compare_all(&files, Sides::new(&by_library, caller), seed) {
+            Ok(_) => missed.push(name),
+            Err(difference) => println!("{name}: {}", difference.text),
+        }
+    }
+    println!("{} mutants", mutants.len());
+    assert!(missed.is_empty(), "not caught: {missed:?}");
 }
 
 /// A difference in the place alone is found.

@@ -6,11 +6,11 @@ use std::process::{Command, Output};
 use differential::calls::{by_library, Buffers, Call, Caller, Model};
 use differential::comparison::{replayed, Case, Difference, Sides};
 use differential::saved::{from_text, save, to_text};
-use differential::{columns, mutants, records};
+use differential::{columns, feeds, mutants, records};
 use model::Workings;
 use testkit::column::Column;
 use testkit::command::{assert_fails, assert_writes};
-use testkit::random::seed;
+use testkit::random::{files, seed};
 use workbench::lent::Lent;
 use workbench::Workbench;
 
@@ -63,6 +63,18 @@ fn differences_on_records_repeat() {
     }
 }
 
+/// Differences of readers.
+#[test]
+fn differences_of_readers_repeat() {
+    let seed = seed();
+    let files = files(seed, 1);
+    for (name, caller) in mutants::feeds::all() {
+        let sides = Sides::new(&by_library, &caller);
+        let difference = feeds::compare_all(&files, sides, seed);
+        repeats(&difference.expect_err(name), &caller);
+    }
+}
+
 /// A case's lines, written by hand.
 #[test]
 fn case_as_text() {
@@ -87,6 +99,21 @@ fn case_as_text() {
     assert_eq!(from_text(lines), Ok(case));
 }
 
+/// The same for a reader's call.
+#[test]
+fn reader_as_text() {
+    let case = Case {
+        call: Call::Feed { last: 255 },
+        buffers: Buffers::of_reader(&[2, 0, 1 << 63], &[1, 2, 0xA0], &[0xFF]),
+    };
+    let lines = "call feed 255\n\
+                 state 0000000000000002 0000000000000000 8000000000000000\n\
+                 store 0102a0\n\
+                 run ff\n";
+    assert_eq!(to_text(&case), lines);
+    assert_eq!(from_text(lines), Ok(case));
+}
+
 #[test]
 fn texts_that_are_no_case() {
     for (text, error) in [
@@ -97,6 +124,7 @@ fn texts_that_are_no_case() {
             "call edit_input 1 256\n",
             "no such call: \"edit_input 1 256\"",
         ),
+        ("call feed 256\n", "no such call: \"feed 256\""),
         ("call judge\ncall judge\n", "twice: \"call\""),
         ("call judge\nbooty 00\n", "no such buffer: \"booty\""),
         ("call judge\nfile\n", "one word: \"file\""),
@@ -133,6 +161,19 @@ fn replay_makes_the_call() {
     let case = format!("call settle\nfile {digits}\n");
     let lines = "call:    settle\nlibrary: refused 9 4\nmodel:   refused 9 4\nno difference\n";
     assert_writes(&replay("looped.case", case.as_bytes()), 0, lines);
+}
+
+/// The size record came, and now the three bytes of an end record.
+#[test]
+fn replay_feeds_a_reader() {
+    let store = format!("0102000100{}", "00".repeat(8131));
+    let state = "0000000000000005 0000000000000000 0000000000000000";
+    let case = format!("call feed 0\nstate {state}\nstore {store}\nrun 030000\n");
+    let lines = "call:    feed 0\nlibrary: refused 4 5\nmodel:   refused 4 5\nno difference\n";
+    assert_writes(&replay("reader.case", case.as_bytes()), 0, lines);
+    let case = case.replace("run 030000", "run 0300");
+    let lines = "call:    feed 0\nlibrary: more\nmodel:   more\nno difference\n";
+    assert_writes(&replay("waiting.case", case.as_bytes()), 0, lines);
 }
 
 #[test]

@@ -294,7 +294,8 @@ fn help_while_there_is_no_program() {
         let output = run(&copy, &[word]);
         let text = String::from_utf8_lossy(&output.stdout).into_owned();
         assert!(text.starts_with("usage: quagmuffin COMMAND "), "{text}");
-        let commands = "\nCommands: judge receive explain show write run diff verilog completions\n";
+        let commands =
+            "\nCommands: judge receive explain show write run diff verilog completions\n";
         assert!(text.contains(commands), "{text}");
         assert_writes(&output, 0, &text);
     }
@@ -325,9 +326,15 @@ fn closed_input() {
     ] {
         assert_fails(&run(words), "quagmuffin: standard input: is closed\n");
     }
-    for words in ["run 0", "run 0 file", "receive 0", "receive --help"] {
-        let said = run(words).stderr;
-        assert_eq!(String::from_utf8_lossy(&said), "", "{words}");
+    for words in [
+        "run 0 file",
+        "receive file",
+        "receive file --idle 2",
+        "receive -o kept --idle 2 file",
+        "receive --help",
+    ] {
+        let written = run(words).stdout;
+        assert!(written.starts_with(b"in quagmuffin closed\n"), "{words}");
     }
 }
 

@@ -180,7 +180,7 @@ fn kept() {
     for (file, count, line) in [
         (vec![7, 0, 0, 9], 3, "refused 2 0\n"),
         ([z(), vec![9, 9]].concat(), 136, "refused 8 135\n"),
-        ([large, vec![9, 9]].concat(), 8137, "refused 8 8136\n"),
+        ([large, vec![9]].concat(), 8137, "refused 8 8136\n"),
     ] {
         let output = Sender::to(&folder, &["-o", "kept"]).send(&file).listen();
         let text = format!("kept: {line}");
@@ -288,5 +288,10 @@ fn progress_on_a_terminal() {
             .iter()
             .map(|more| String::from_utf8_lossy(&more).into_owned()),
     );
-    assert!(text.ends_with("\r\x1b[2Kaccepted 1 0\r\n"), "{text:?}");
+    let (_, after) = text.rsplit_once("received").expect("how far it is");
+    let cleared = "\x1b[2K";
+    assert!(
+        after.contains(cleared) && after.ends_with("accepted 1 0\r\n"),
+        "{text:?}"
+    );
 }

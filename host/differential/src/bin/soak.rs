@@ -1,5 +1,5 @@
-//! Compares the program and the library with the model on files and records of
-//! fresh seeds, for as many minutes as it is told or up to the first difference.
+//! Compares the program and the library with the model on files, whole and in
+//! runs, and records of fresh seeds, for as many minutes as it is told or up to the first difference.
 
 use std::hash::{BuildHasher, Hasher, RandomState};
 use std::io::{IsTerminal, Write};
@@ -12,7 +12,7 @@ use std::time::{Duration, Instant};
 use differential::calls::{by_library, Buffers, Model};
 use differential::comparison::Sides;
 use differential::saved::save;
-use differential::{columns, records, Counts};
+use differential::{columns, feeds, records, Counts};
 use testkit::compare::{report, Difference};
 use testkit::random;
 use testkit::run::{differences_folder, find_judge, run};
@@ -112,7 +112,10 @@ impl Soak {
             let subject = columns::Subject::new(number, file);
             judge(&subject, seed)?;
             let model = |call, buffers: &mut Buffers| subject.model.call(call, buffers);
-            let counts = columns::compare(&subject, Sides::new(&by_library, &model), seed);
+            let sides = Sides::new(&by_library, &model);
+            let counts = columns::compare(&subject, sides, seed);
+            self.progress().counts += counts.map_err(saved)?;
+            let counts = feeds::compare(number, &subject.file, sides, seed);
             self.progress().counts += counts.map_err(saved)?;
         }
         let model = Model::of(&[]);
@@ -156,9 +159,10 @@ impl Soak {
             false => "a difference",
         };
         format!(
-            "{minutes:.1} minutes, {} seeds, {} files, {} records, {} calls, {differences}",
+            "{minutes:.1} minutes, {} seeds, {} files, {} sessions, {} records, {} calls, {differences}",
             progress.seeds,
             counts.files,
+            counts.sessions,
             counts.records,
             counts.calls(),
         )

@@ -120,13 +120,19 @@ fn given_late() -> Vec<Mutant> {
             };
             deciding(late, call, buffers)
         }),
-        ("2, 3 and 4 after the body that a header names", |call, buffers| {
-            let late = |rules: &Rules, bytes: &[u8]| match certain(rules, bytes) {
-                Some(Verdict::Refused { number: 2..=4, place }) if !is_whole(bytes, place) => None,
-                verdict => verdict,
-            };
-            deciding(late, call, buffers)
-        }),
+        (
+            "2, 3 and 4 after the body that a header names",
+            |call, buffers| {
+                let late = |rules: &Rules, bytes: &[u8]| match certain(rules, bytes) {
+                    Some(Verdict::Refused {
+                        number: 2..=4,
+                        place,
+                    }) if !is_whole(bytes, place) => None,
+                    verdict => verdict,
+                };
+                deciding(late, call, buffers)
+            },
+        ),
         ("nothing before the end", |call, buffers| {
             deciding(|_, _| None, call, buffers)
         }),
@@ -183,15 +189,18 @@ fn ends() -> Vec<Mutant> {
             let last = u8::from(call == Call::Feed { last: 1 });
             rightly(Call::Feed { last }, buffers)
         }),
-        ("the run that comes with the end not counted", |call, buffers| {
-            let run = buffers.run.clone();
-            if is_last(call) {
-                buffers.run = Lent::bytes(&[]);
-            }
-            let answer = rightly(call, buffers);
-            buffers.run = run;
-            answer
-        }),
+        (
+            "the run that comes with the end not counted",
+            |call, buffers| {
+                let run = buffers.run.clone();
+                if is_last(call) {
+                    buffers.run = Lent::bytes(&[]);
+                }
+                let answer = rightly(call, buffers);
+                buffers.run = run;
+                answer
+            },
+        ),
     ]
 }
 
@@ -304,8 +313,9 @@ fn tests() -> Vec<Mutant> {
             buffers.state = whole;
             answer
         }),
-        ("11 before a verdict given again", |call, buffers| {
-            match buffers.state.get() {
+        (
+            "11 before a verdict given again",
+            |call, buffers| match buffers.state.get() {
                 &[kept, passed, (1..)] if kept > STORE as u64 || passed > 64 => {
                     let given = std::mem::take(&mut buffers.state.lend()[2]);
                     let answer = rightly(call, buffers);
@@ -313,8 +323,8 @@ fn tests() -> Vec<Mutant> {
                     answer
                 }
                 _ => rightly(call, buffers),
-            }
-        }),
+            },
+        ),
         ("more slices than there can be taken", |call, buffers| {
             if let [_, passed, _] = buffers.state.lend() {
                 *passed = (*passed).min(64);

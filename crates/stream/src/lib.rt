@@ -1,0 +1,145 @@
+// A file that comes in runs of bytes: a reader says "more", or its verdict as soon as it is certain.
+ghost use mathlib.Core.Path.{_≡_};
+ghost use mathlib.Core.Bool.{false};
+ghost use Prim.Native.Nat.{_≤_};
+ghost use lib.ListN.{length};
+ghost use Rattle.lent.specs.Lent.{was, left};
+ghost use Rattle.slicefile.specs.Format.{sliceLimit};
+ghost use Rattle.column.specs.File.{fileLimit};
+ghost use Rattle.stream.specs.Feeding.{foreign, early, Hears, JudgedOver, Takes, Feeds};
+use column::Checked;
+use column::Verdict;
+use column::FILE_LIMIT;
+use slicefile::SLICE_LIMIT;
+
+// What a reader says: that more bytes are needed, or its verdict.
+pub enum Reply {
+    More,
+    Given(Verdict),
+}
+
+// What is handed from call to call besides the store: how many bytes stand in it, how many slices passed, and what was said last.
+pub struct Reader {
+    pub len: usize,
+    pub passed: usize,
+    pub said: Reply,
+}
+
+// What a call gives: its reply, and the reader for the next one.
+pub struct Fed {
+    pub reply: Reply,
+    pub reader: Reader,
+}
+
+// What a check says while more bytes may come: a refusal but 1 stays whatever they are.
+fn early_reply(checked: Checked) -> Reply
+    ensures { λ r. ⌜ r ≡ early checked ⌝ }
+{
+    match checked {
+        Checked::Bad { number, place } => {
+            if number == 1 {
+                return Reply::More;
+            }
+            Reply::Given(Verdict::Refused { number, place })
+        }
+        Checked::Sound { n, m } => Reply::More,
+    }
+}
+
+// The verdict on a full store and bytes that find no room in it.
+fn judge_over(store: &[u8]) -> Verdict
+    requires { ⌜ length (now store) ≡ fileLimit ⌝ }
+    ensures { λ r. ⌜ JudgedOver (was store) r ⌝ }
+{
+    match column::check_file(store) {
+        Checked::Bad { number, place } => Verdict::Refused { number, place },
+        Checked::Sound { n, m } => Verdict::Refused {
+            number: 8,
+            place: FILE_LIMIT,
+        },
+    }
+}
+
+// The reader after bytes that all stand in its store.
+fn hear(bytes: &[u8], passed: usize, last: bool) -> Reader
+    requires { ⌜ passed ≤ sliceLimit ⌝ }
+    ensures { λ r. ⌜ Hears (was bytes) (length (was bytes)) passed last r ⌝ }
+{
+    let len = bytes.len();
+    if last {
+        let verdict = column::judge(bytes);
+        return Reader {
+            len,
+            passed,
+            said: Reply::Given(verdict),
+        };
+    }
+    let progress = column::check_from(bytes, passed);
+    let checked = progress.checked;
+    let said = early_reply(checked);
+    let Reply::More = said else {
+        return Reader { len, passed, said };
+    };
+    Reader {
+        len,
+        passed: progress.passed,
+        said,
+    }
+}
+
+// Takes a run into the store of a reader that has given no verdict yet.
+fn take_run(reader: Reader, store: &mut [u8], run: &[u8], last: bool) -> Reader
+    requires { ⌜ (length (now store) ≡ fileLimit) × (foreign reader ≡ false) ⌝ }
+    ensures { λ r. ⌜ Takes reader (was store) (was run) last r (left store) ⌝ }
+{
+    let at = reader.len;
+    let passed = reader.passed;
+    let room = FILE_LIMIT - at;
+    if room < run.len() {
+        slicerecord::put_bytes(store, at, &run[..room]);
+        let verdict = judge_over(store);
+        return Reader {
+            len: FILE_LIMIT,
+            passed,
+            said: Reply::Given(verdict),
+        };
+    }
+    slicerecord::put_bytes(store, at, run);
+    let end = at + run.len();
+    hear(&store[..end], passed, last)
+}
+
+// A refusal that leaves the reader as it was.
+fn kept(number: usize, reader: Reader) -> Fed
+    ensures { λ r. ⌜ (r .reply ≡ Reply.Given (Verdict.Refused number 0)) × (r .reader ≡ reader) ⌝ }
+{
+    Fed {
+        reply: Reply::Given(Verdict::Refused { number, place: 0 }),
+        reader,
+    }
+}
+
+// Gives a reader the next run, and whether the sender says that there is no more.
+pub fn feed(reader: Reader, store: &mut [u8], run: &[u8], last: bool) -> Fed
+    ensures { λ r. ⌜ Feeds reader (was store) (was run) last r (left store) ⌝ }
+{
+    if store.len() != FILE_LIMIT {
+        return kept(10, reader);
+    }
+    let said = reader.said;
+    let Reply::More = said else {
+        return Fed {
+            reply: said,
+            reader,
+        };
+    };
+    if (FILE_LIMIT < reader.len) | (SLICE_LIMIT < reader.passed) {
+        return kept(11, reader);
+    }
+    let next = take_run(reader, store, run, last);
+    let reply = next.said;
+    Fed {
+        reply,
+        reader: next,
+    }
+}
