@@ -78,11 +78,11 @@ module _ (file : List ℕ) where
     pub cut-off : length file < recordStart file s → (Bad 1 (recordStart file s) ≡ checkFrom s file) × (s ≡ passedFrom s file)
     unfolding checkFrom passedFrom
     cut-off short =
-        let none : drop (recordStart file s) file ≡ [] = drop-of-length-le file {i = recordStart file s} (omega arith) in
-        (
+        let none : drop (recordStart file s) file ≡ [] = drop-of-length-le file {i = recordStart file s} (omega arith) in (
           sym (good-first (sizeRefusal file) 0 _ begins ∙ rw none (nothing-left n m (n - s) s (recordStart file s))),
           sym (count-goes-on (sizeRefusal file) s _ begins ∙ rw none (none-counted n m (n - s) s)),
         )
+
   module _ {from s at : ℕ} (here : Stands from s at) where
     -- the next slice is bad
     pub slice-bad : s < n → {r : ℕ} → r ≡ sliceRefusal n m s (drop at file) → (r ≡ 0 → ⊥) → (Bad r at ≡ checkFrom from file) × (s ≡ passedFrom from file)
@@ -115,8 +115,7 @@ module _ (file : List ℕ) where
     pub slices-end : n ≤ s → (checkEnd n m at (drop at file) ≡ checkFrom from file) × (s ≡ passedFrom from file)
     unfolding checkSlices passSlices
     slices-end l =
-        let none : n - s ≡ 0 = omega arith in
-        (
+        let none : n - s ≡ 0 = omega arith in (
           sym (here .decides ∙ ap (λ (k : ℕ). checkSlices n m k s at (drop at file)) none),
           sym (here .counts ∙ ap (λ (k : ℕ). passSlices n m k s (drop at file)) none),
         )

@@ -144,7 +144,7 @@ check-cut file e =
     (bad-cases (sizeRefusal file) 0 _ e)
 
 -- a sound file is no longer than the longest
-too-long : (file : List ℕ) {n m : ℕ} → fileLimit < length file → checkFile file ≡ Sound n m → ⊥
+pub too-long : (file : List ℕ) {n m : ℕ} → fileLimit < length file → checkFile file ≡ Sound n m → ⊥
 too-long file {n} long e = let f = sound-file file e in omega (arith, f .size, file-within file n (f .slices-fit))
 
 -- bytes enough for the longest file: a refusal stays, and a sound file is the longest, so that more bytes are refused behind it

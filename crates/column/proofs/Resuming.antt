@@ -77,8 +77,8 @@ module _ (file : List ℕ) where
         begins = λ l. size-stays file x (λ o. omega (arith, begins)) ∙ begins;
         within = rw (count-stays file x begins) (p .within);
         good = λ i l.
-          let z = p .good i l in
-          let whole = slice-whole _ _ i (drop (recordStart file i) file) z in
-          rw (count-stays file x begins, inputs-stay file x begins, start-stays file x i, drop-append-le (recordStart file i) file x (omega (arith, whole, length-drop (recordStart file i) file)))
-          (slice-stays _ _ i (drop (recordStart file i) file) x (λ o. omega (arith, z)) ∙ z);
+            let z = p .good i l in
+            let whole = slice-whole _ _ i (drop (recordStart file i) file) z in
+            rw (count-stays file x begins, inputs-stay file x begins, start-stays file x i, drop-append-le (recordStart file i) file x (omega (arith, whole, length-drop (recordStart file i) file)))
+            (slice-stays _ _ i (drop (recordStart file i) file) x (λ o. omega (arith, z)) ∙ z);
       }

@@ -1,2 +1,5 @@
 pub mod Hearing
 pub mod Taking
+pub mod Calls
+pub mod Certainty
+pub mod Serial

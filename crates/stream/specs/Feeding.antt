@@ -69,10 +69,18 @@ pub record Keeps (reply : Reply) (r : Reader) (store : List ℕ) (fed : Fed) (af
   pub same : fed .reader ≡ r
   pub untouched : after ≡ store
 
--- a call: a store of another length is 10; "after a verdict every call gives it again"; a state that no call leaves is 11; else the run is taken
-pub data Feeds (r : Reader) (store run : List ℕ) (last : Bool) (fed : Fed) (after : List ℕ) : Type 0 where
-  wrong : (length store ≡ fileLimit → ⊥) → Keeps (Given (Refused 10 0)) r store fed after → Feeds r store run last fed after
-  again : {v : Verdict} → length store ≡ fileLimit → r .said ≡ Given v → Keeps (Given v) r store fed after → Feeds r store run last fed after
-  strange : length store ≡ fileLimit → r .said ≡ More → foreign r ≡ true → Keeps (Given (Refused 11 0)) r store fed after → Feeds r store run last fed after
-  taken : length store ≡ fileLimit → r .said ≡ More → foreign r ≡ false → fed .reply ≡ fed .reader .said → Takes r store run last (fed .reader) after
-      → Feeds r store run last fed after
+-- a call that takes the run, and says what it hands on
+pub record TakesRun (r : Reader) (store run : List ℕ) (last : Bool) (fed : Fed) (after : List ℕ) : Type 0 where
+  pub says : fed .reply ≡ fed .reader .said
+  pub takes : Takes r store run last (fed .reader) after
+
+-- a call, by whether the store has its length, what was said before, and whether no call leaves such a state: another length is 10; "after a
+-- verdict every call gives it again"; such a state is 11; else the run is taken
+abbrev pub FeedsBy : Bool → Reply → Bool → Reader → List ℕ → List ℕ → Bool → Fed → List ℕ → Type 0
+FeedsBy false said strange r store run last fed after = Keeps (Given (Refused 10 0)) r store fed after
+FeedsBy true (Given v) strange r store run last fed after = Keeps (Given v) r store fed after
+FeedsBy true More true r store run last fed after = Keeps (Given (Refused 11 0)) r store fed after
+FeedsBy true More false r store run last fed after = TakesRun r store run last fed after
+
+pub record Feeds (r : Reader) (store run : List ℕ) (last : Bool) (fed : Fed) (after : List ℕ) : Type 0 where
+  pub by : FeedsBy (eqb (length store) fileLimit) (r .said) (foreign r) r store run last fed after

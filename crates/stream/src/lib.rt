@@ -8,8 +8,8 @@ ghost use Rattle.slicefile.specs.Format.{sliceLimit};
 ghost use Rattle.column.specs.File.{fileLimit};
 ghost use Rattle.stream.specs.Feeding.{foreign, early, Hears, JudgedOver, Takes, Feeds};
 use column::Checked;
-use column::Verdict;
 use column::FILE_LIMIT;
+use column::Verdict;
 use slicefile::SLICE_LIMIT;
 
 // What a reader says: that more bytes are needed, or its verdict.

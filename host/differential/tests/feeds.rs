@@ -84,11 +84,11 @@ fn answers_at_each_byte() {
     let all = directed.chain(files(seed(), times()));
     let short = all.filter(|file| file.len() < 2_000);
     let refused = short.filter(|file| is_two_to_eight(calls::judge(file)));
-    for file in refused.step_by(4) {
+    for file in refused {
         counts += agreed(compare_bytes(&file, 0, SIDES));
     }
     print(counts);
-    assert!(counts.answers[2..=8].iter().all(|&count| count >= 10));
+    assert!(counts.answers[2..=8].iter().all(|&count| count >= 50));
 }
 
 fn is_two_to_eight(verdict: Verdict) -> bool {
@@ -136,7 +136,7 @@ fn certain_at_the_earliest_byte() {
     assert!(early >= 1_000);
 }
 
-/// Where the answer is free, on a state that no call left: only the run is put into the store, as far as it is counted, and a verdict is kept.
+/// Where the answer is free, on a state that no call left: the run and nothing else is put into the store, and a verdict is kept.
 #[test]
 fn scribbled_states() {
     let (mut rng, mut free) = (Prng::new(seed()), 0);

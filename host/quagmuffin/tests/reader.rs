@@ -58,6 +58,7 @@ fn headers() {
     decided_by_the_end(&[7], refused(1, 0), None);
     decided_by_the_end(&[7, 0], refused(1, 0), Some(refused(2, 0)));
     decided_at_the_last(&[7, 0, 0], refused(2, 0));
+    decided_at_the_last(&[2, 124, 0], refused(4, 0));
     decided_at_the_last(&[1, 3, 0], refused(3, 0));
     decided_at_the_last(&z_then(5, &[3, 0, 0]), refused(4, 5));
     decided_at_the_last(&z_then(5, &[2, 0x7D, 0]), refused(3, 5));
@@ -97,6 +98,9 @@ fn a_full_store() {
     assert_eq!(reader.feed(&longer[..8000]), None);
     assert_eq!(reader.feed(&longer[8000..]), Some(refused(8, 8136)));
     assert_eq!(reader.bytes(), file);
+    let mut reader = Reader::new();
+    assert_eq!(reader.feed(&[7; 9000]), Some(refused(2, 0)));
+    assert_eq!(reader.bytes(), [7; 8136]);
 }
 
 #[test]

@@ -61,20 +61,13 @@ fn received(file: File, idle: Option<Duration>, progress: &mut Progress) -> io::
         let idle = idle.filter(|_| !bytes.is_empty());
         let piece = pieces.next(idle, || progress.reached(bytes.len()))?;
         let ends = piece.is_empty();
-        // One byte after the other, which tells the first at which the verdict is certain. There are few: one of the first 8,137 is the last.
-        for byte in piece {
+        // One byte after the other, to find the first at which the verdict is certain: that is one of the first 8,137, so they are few.
+        let early = piece.into_iter().find_map(|byte| {
             bytes.push(byte);
-            if let Some(verdict) = reader.feed(&[byte]) {
-                let certain = true;
-                return Ok(Received {
-                    bytes,
-                    verdict,
-                    certain,
-                });
-            }
-        }
-        if ends {
-            let (verdict, certain) = (reader.end(), false);
+            reader.feed(&[byte])
+        });
+        if let Some(verdict) = early.or_else(|| ends.then(|| reader.end())) {
+            let certain = !ends;
             return Ok(Received {
                 bytes,
                 verdict,

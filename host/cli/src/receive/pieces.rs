@@ -30,7 +30,8 @@ impl Pieces {
         Ok(Pieces { ask, come })
     }
 
-    /// The next piece; an empty one where there are no more, or where nothing came for the time `idle`. Now and then while it waits it calls `waiting`.
+    /// The next piece; an empty one where there are no more, or where nothing came for the time `idle`. While it waits it calls `waiting` now
+    /// and then.
     pub fn next(&self, idle: Option<Duration>, mut waiting: impl FnMut()) -> io::Result<Vec<u8>> {
         // Where the thread is gone the wait says so.
         let _ = self.ask.send(());

@@ -215,7 +215,7 @@ fn not_kept() {
     assert!(!folder.path("new").exists());
 }
 
-/// The pipe stays open, and the silence after the last byte is its end. A second without a byte shows that nothing is drawn where there is no terminal.
+/// The pipe stays open, and the silence after the last byte is its end. Where there is no terminal nothing is drawn in a second of it.
 #[test]
 fn silence_ends() {
     let folder = Folder::new("receive idle");
