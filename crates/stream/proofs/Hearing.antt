@@ -2,21 +2,39 @@
 use mathlib.Core.Path.{_≡_, _∙_, refl, sym, ap, subst}
 use mathlib.Core.Bool.{Bool, true, false}
 use mathlib.Core.List.{List, _++_}
-use Prim.Native.Nat.{ℕ, _+_, _-_, _≤_, _<_}
+use Prim.Native.Nat.{ℕ}
+use native.Mathlib.Decide.{ℕ-discrete}
 use native.Mathlib.Omega.{arith}
 use borrow.Author.Tests.{ne-eqb}
 use Rattle.column.specs.Check.{checkFrom, passedFrom}
 use Rattle.column.specs.Judge.{Judged}
-use Rattle.column.specs.declared.Checked.the-variants.{Bad}
+use Rattle.column.specs.declared.Checked.{Checked}
+use Rattle.column.specs.declared.Checked.the-variants.{Bad, Sound}
 use Rattle.column.specs.declared.Verdict.{Verdict}
 use Rattle.column.specs.declared.Verdict.the-variants.{Refused}
 use Rattle.stream.specs.declared.Reply.{Reply}
 use Rattle.stream.specs.declared.Reply.the-variants.{More, Given}
 use Rattle.stream.specs.Feeding.{reader, early, Hears, judged, certain, waits}
 
+-- a reply is not both
+pub more-or-given : (reply : Reply) {v : Verdict} → reply ≡ More → reply ≡ Given v → ⊥
+more-or-given reply e f = let z : _≡_ {A = ℕ} 0 1 = cc in omega arith
+
+pub same-verdict : {v w : Verdict} → Given v ≡ Given w → v ≡ w
+same-verdict e = cc
+
 -- a refusal but 1 is given at once
 pub early-other : {k p : ℕ} → (k ≡ 1 → ⊥) → Given (Refused k p) ≡ early (Bad k p)
 early-other {k} {p} ne = rw (ne-eqb k 1 ne)
+
+-- and nothing else is
+pub given-early : (c : Checked) {v : Verdict} → early c ≡ Given v → (k : ℕ) × (p : ℕ) × (c ≡ Bad k p) × (k ≡ 1 → ⊥) × (Refused k p ≡ v)
+given-early (Bad k p) {v} e = by-number (ℕ-discrete k 1)
+  where
+    by-number : Dec (k ≡ 1) → (i : ℕ) × (q : ℕ) × (Bad k p ≡ Bad i q) × (i ≡ 1 → ⊥) × (Refused i q ≡ v)
+    by-number (yes z) = absurd (more-or-given (early (Bad k p)) (ap (λ (j : ℕ). early (Bad j p)) z) e)
+    by-number (no ne) = (k, p, refl, ne, same-verdict (early-other ne ∙ e))
+given-early (Sound n m) e = absurd (more-or-given More refl e)
 
 module _ (bytes : List ℕ) (len passed : ℕ) {last : Bool} where
   pub hears-all : {v : Verdict} → last ≡ true → Judged bytes v → Hears bytes len passed last (reader len passed (Given v))

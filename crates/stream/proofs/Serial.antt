@@ -1,23 +1,21 @@
 -- Request One: from a fresh reader, each call given the state the last one left, the verdict equals the judge's on the joined bytes once the
 -- sender says there is no more, a refusal is given as soon as it is certain, and every call after a verdict gives it again. Assumes nothing.
-use mathlib.Core.Path.{_≡_, _∙_, refl, sym, ap, ap₂, subst}
+use mathlib.Core.Path.{_≡_, _∙_, refl, sym, ap, subst}
 use mathlib.Core.Bool.{Bool, true, false, true≢false, _||_}
 use mathlib.Core.List.{List, [], _∷_, _++_, append-nil, append-assoc}
 use Prim.Native.Nat.{ℕ, zero, suc, _+_, _-_, _≤_, _<_}
-use native.Mathlib.Decide.{ℕ-discrete}
 use native.Mathlib.Omega.{arith}
 use borrow.Author.Tests.{le-ltb, ltb-true, ltb-false}
 use lib.Dec.{ltb}
 use lib.ListN.{length, take, getD, length-take}
-use lib.Seq.{sets, length-sets}
+use lib.Seq.{length-sets}
 use Rattle.slicefile.specs.Format.{sliceLimit}
+use Rattle.framing.specs.Framing.{headerRefusal, sizeRefusal}
 use Rattle.column.specs.File.{fileLimit}
 use Rattle.column.specs.Check.{checkFile, Passed}
 use Rattle.column.specs.Judge.{Judged, bad}
-use Rattle.column.specs.declared.Checked.{Checked}
-use Rattle.column.specs.declared.Checked.the-variants.{Bad, Sound}
+use Rattle.column.specs.declared.Checked.the-variants.{Bad}
 use Rattle.column.specs.declared.Verdict.{Verdict}
-use Rattle.column.specs.declared.Verdict.the-variants.{Refused}
 use Rattle.column.proofs.Resuming.{none-passed, passed-fit, passed-check, passed-on, passed-stay}
 use Rattle.stream.specs.declared.Reply.{Reply}
 use Rattle.stream.specs.declared.Reply.the-variants.{More, Given}
@@ -25,23 +23,12 @@ use Rattle.stream.specs.declared.Reader.{Reader}
 use Rattle.stream.specs.declared.Fed.{Fed}
 use Rattle.stream.specs.Feeding.{fresh, foreign, early, seen, fitting, final, Hears, judged, certain as tested, waits, Feeds}
 use Rattle.stream.specs.Sessions.{Certain, Owed, ended, certain, more, Holds, Closed, Leaves, Call, Session, silence, call, joined, firstVerdict, Follows, noCall}
-use Rattle.stream.proofs.Hearing.{early-other}
-use Rattle.stream.proofs.Taking.{seen-length, all-fitting, all-seen}
+use Rattle.stream.proofs.Hearing.{more-or-given, early-other, given-early}
+use Rattle.stream.proofs.Taking.{front-seen}
 use Rattle.stream.proofs.Calls.{again-told, run-told}
 use Rattle.stream.proofs.Certainty.{tests-certain, certain-tested, long-certain}
 
 -- ---- what a check says early is what is certain
-more-or-given : (reply : Reply) {v : Verdict} → reply ≡ More → reply ≡ Given v → ⊥
-more-or-given reply e f = let z : _≡_ {A = ℕ} 0 1 = cc in omega arith
-
-given-early : (c : Checked) {v : Verdict} → early c ≡ Given v → (k : ℕ) × (p : ℕ) × (c ≡ Bad k p) × (k ≡ 1 → ⊥) × (Refused k p ≡ v)
-given-early (Bad k p) {v} e = by-number (ℕ-discrete k 1)
-  where
-    by-number : Dec (k ≡ 1) → (i : ℕ) × (q : ℕ) × (Bad k p ≡ Bad i q) × (i ≡ 1 → ⊥) × (Refused i q ≡ v)
-    by-number (yes z) = absurd (more-or-given (early (Bad k p)) (ap (λ (j : ℕ). early (Bad j p)) z) e)
-    by-number (no ne) = let f : Given (Refused k p) ≡ Given v = early-other ne ∙ e in (k, p, refl, ne, cc f)
-given-early (Sound n m) e = absurd (more-or-given More refl e)
-
 module _ (bytes : List ℕ) where
   early-certain : {v : Verdict} → early (checkFile bytes) ≡ Given v → Owed bytes false (Given v)
   early-certain e =
@@ -99,16 +86,8 @@ module _ {r : Reader} {store bytes : List ℕ} (h : Holds r store bytes) where
     -- where all bytes found room it holds them
     goes-on : length all ≤ fileLimit → fed .reader .len ≡ r .len + length (fitting r run) → fed .reader .said ≡ More → Passed all (fed .reader .passed) → Holds (fed .reader) after all
     goes-on short len said p =
-        let fits : length run ≤ fileLimit - r .len = omega (arith, ap length same, seen-length r store run (h .room) within) in
-        let whole : fitting r run ≡ run = all-fitting r store run (h .room) within fits in
-        let count : fed .reader .len ≡ r .len + length run = len ∙ ap (λ (b : List ℕ). r .len + length b) whole in
-        record {
-          room = stored;
-          waits = said;
-          count = count ∙ sym (seen-length r store run (h .room) within) ∙ ap length same;
-          kept = ap₂ take count (run-told (h .room) (h .waits) own f .takes .stored ∙ ap (sets store (r .len)) whole) ∙ all-seen r store run (h .room) within fits ∙ same;
-          passed = p;
-        }
+        let kept = front-seen r store run (h .room) within (rw same short) len (run-told (h .room) (h .waits) own f .takes .stored) ∙ same in
+        record { room = stored; waits = said; count = omega (arith, len, ap length kept, length-take (fed .reader .len) after, stored, length-take (fileLimit - r .len) run, within); kept = kept; passed = p }
 
     left-by : {b : Bool} {next : Reader} → b ≡ final last all → fed .reader ≡ next → Hears all (r .len + length (fitting r run)) (r .passed) b next → Leaves (next .said) (fed .reader) after all
     left-by e n (judged j) = record { room = stored; verdict = ap (λ (x : Reader). x .said) n }
@@ -160,3 +139,46 @@ held-after {bytes = bytes} h (call {after = after} {c = c} {fed = fed} {calls = 
 pub session : (store : List ℕ) {calls : List Call} {replies : List Reply} → length store ≡ fileLimit → Session fresh store calls replies
     → (k : ℕ) → k < length calls → Follows (firstVerdict (take k replies)) (joined (take (suc k) calls)) (getD calls k noCall .last) (getD replies k More)
 session store full s = held-after (fresh-holds store full) s
+
+-- ---- when a refusal is given
+
+-- nothing is certain from no bytes
+nothing-certain : Certain [] → ⊥
+unfolding checkFile sizeRefusal headerRefusal
+nothing-certain c = let t = certain-tested [] c in omega (arith, one (t .3), t .2)
+  where
+    one : {k p : ℕ} → Bad 1 0 ≡ Bad k p → k ≡ 1
+    one e = cc
+
+-- "more" is said only where nothing is certain
+more-uncertain : {bytes : List ℕ} {last : Bool} → Owed bytes last More → Certain bytes → ⊥
+more-uncertain (more never) = never
+
+-- a verdict before the sender's last word only where it is
+given-certain : {bytes : List ℕ} {last : Bool} {reply : Reply} {v : Verdict} → last ≡ false → reply ≡ Given v → Owed bytes last reply → Certain bytes
+given-certain e f (ended j) = absurd (true≢false e)
+given-certain e f (certain c j) = c
+given-certain e f (more never) = absurd (more-or-given More refl f)
+
+-- replies without a verdict
+none-before : (replies : List Reply) (k : ℕ) → firstVerdict (take (suc k) replies) ≡ More → (firstVerdict (take k replies) ≡ More) × (getD replies k More ≡ More)
+none-before [] zero e = (refl, refl)
+none-before [] (suc k) e = (refl, refl)
+none-before (More ∷ replies) zero e = (refl, refl)
+none-before (More ∷ replies) (suc k) e = none-before replies k e
+none-before (Given v ∷ replies) k e = absurd (more-or-given More refl (sym e))
+
+module _ (store : List ℕ) {calls : List Call} {replies : List Reply} (full : length store ≡ fileLimit) (s : Session fresh store calls replies) where
+  -- what is owed to a call that no verdict came before
+  before-verdict : (k : ℕ) → k < length calls → firstVerdict (take k replies) ≡ More → Owed (joined (take (suc k) calls)) (getD calls k noCall .last) (getD replies k More)
+  before-verdict k l e =
+      subst (λ (x : Reply). Follows x (joined (take (suc k) calls)) (getD calls k noCall .last) (getD replies k More)) e (session store full s k l)
+
+  -- a first verdict that is given before the sender's last word is certain from the bytes up to it, and was not without the last run: where that
+  -- is one byte, it is the first at which it is certain
+  pub first-certain : (k : ℕ) {v : Verdict} → k < length calls → firstVerdict (take k replies) ≡ More → getD calls k noCall .last ≡ false → getD replies k More ≡ Given v
+      → Certain (joined (take (suc k) calls)) × (Certain (joined (take k calls)) → ⊥)
+  first-certain zero l e n g = (given-certain n g (before-verdict 0 l e), nothing-certain)
+  first-certain (suc k) l e n g =
+      let b = none-before replies k e in
+      (given-certain n g (before-verdict (suc k) l e), more-uncertain (subst (Owed _ _) (b .1) (before-verdict k (omega arith) (b .0))))

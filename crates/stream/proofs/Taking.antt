@@ -1,5 +1,5 @@
 -- A run taken into a store: what stands at its front is what was seen, as far as it finds room. Assumes nothing.
-use mathlib.Core.Path.{_≡_, _∙_, refl, sym, ap, subst}
+use mathlib.Core.Path.{_≡_, _∙_, refl, sym, ap, ap₂, subst}
 use mathlib.Core.Bool.{Bool, true, false, _||_}
 use mathlib.Core.List.{List, _++_, append-assoc}
 use Prim.Native.Nat.{ℕ, _+_, _-_, _≤_, _<_}
@@ -73,6 +73,16 @@ module _ (r : Reader) (store run : List ℕ) (full : length store ≡ fileLimit)
 
     pub is-final : (last : Bool) → final last (seen r store run) ≡ true
     is-final last = ap (λ (b : Bool). last || b) (lt-ltb fileLimit (length (seen r store run)) (omega (arith, seen-length))) ∙ or-true last
+
+  -- where all bytes seen find room, they stand at the front
+  module _ (short : length (seen r store run) ≤ fileLimit) where
+    pub run-fits : length run ≤ fileLimit - r .len
+    run-fits = omega (arith, seen-length)
+
+    pub front-seen : {len : ℕ} {after : List ℕ} → len ≡ r .len + length (fitting r run) → after ≡ sets store (r .len) (fitting r run) → take len after ≡ seen r store run
+    front-seen e f =
+        let whole = all-fitting run-fits in
+        ap₂ take (e ∙ ap (λ (b : List ℕ). r .len + length b) whole) (f ∙ ap (sets store (r .len)) whole) ∙ all-seen run-fits
 
 -- ---- the two ways to take a run
 same-hears : {bytes bytes′ : List ℕ} {len len′ passed : ℕ} {b b′ : Bool} {next : Reader} → bytes ≡ bytes′ → len ≡ len′ → b ≡ b′ → Hears bytes len passed b next

@@ -243,16 +243,59 @@ fn what_is_no_silence() {
     assert_writes(&sender.send(&z()).listen(), 0, "accepted 1 0\n");
 }
 
-/// All that a run in a terminal shows, piece by piece.
-fn shown(mut screen: impl Read + Send + 'static) -> Receiver<Vec<u8>> {
-    let (send, shown) = channel();
+/// A run of `receive` in a terminal, and what it has shown there.
+struct Screen {
+    child: Child,
+    pieces: Receiver<Vec<u8>>,
+    text: String,
+}
+
+impl Screen {
+    fn of(folder: &Folder, word: &str) -> Screen {
+        let binary = env!("CARGO_BIN_EXE_quagmuffin");
+        let mut script = Command::new("script");
+        script.args(["-q", "-e", "-c", &format!("'{binary}' receive {word}")]);
+        script.arg("/dev/null").current_dir(folder.path(""));
+        script.stdin(Stdio::null()).stdout(Stdio::piped());
+        let mut child = script.spawn().expect("script, of bsdutils");
+        let pieces = pieces_of(child.stdout.take().expect("a pipe"));
+        let text = String::new();
+        Screen {
+            child,
+            pieces,
+            text,
+        }
+    }
+
+    /// Waits until it has shown this.
+    fn wait_for(&mut self, text: &str) {
+        let start = Instant::now();
+        while !self.text.contains(text) {
+            assert!(start.elapsed() < MOST, "no {text}: {:?}", self.text);
+            let piece = self.pieces.recv_timeout(MOST).expect("a piece");
+            self.text += &String::from_utf8_lossy(&piece);
+        }
+    }
+
+    /// All that it has shown to its end.
+    fn ended(self) -> String {
+        assert!(ended(self.child).status.success());
+        let rest: Vec<u8> = self.pieces.iter().flatten().collect();
+        self.text + &String::from_utf8_lossy(&rest)
+    }
+}
+
+/// What comes from a pipe, read by a thread, so that a wait for it has an end.
+fn pieces_of(mut pipe: impl Read + Send + 'static) -> Receiver<Vec<u8>> {
+    let (send, pieces) = channel();
     spawn(move || {
         let mut piece = [0; 1024];
-        while let Ok(count @ 1..) = screen.read(&mut piece) {
-            send.send(piece[..count].to_vec()).expect("the test");
+        while let Ok(count @ 1..) = pipe.read(&mut piece) {
+            // A test that has failed takes no more.
+            let _ = send.send(piece[..count].to_vec());
         }
     });
-    shown
+    pieces
 }
 
 /// On a terminal it says how far it is while it waits, and takes that away before the verdict.
@@ -261,37 +304,22 @@ fn progress_on_a_terminal() {
     let folder = Folder::new("receive progress");
     let made = Command::new("mkfifo").arg(folder.path("line")).status();
     assert!(made.expect("mkfifo").success());
-    // Open to read as well, it needs no reader to be opened.
+    // Opened to read as well, it needn't wait for a reader.
     let options = File::options().read(true).write(true).clone();
     let mut line = options.open(folder.path("line")).expect("the pipe");
-    let words = format!("'{}' receive line", env!("CARGO_BIN_EXE_quagmuffin"));
-    let mut script = Command::new("script");
-    script.args(["-q", "-e", "-c", &words, "/dev/null"]);
-    script.current_dir(folder.path("")).stdin(Stdio::null());
-    let mut child = script
-        .stdout(Stdio::piped())
-        .spawn()
-        .expect("script, of bsdutils");
-    let shown = shown(child.stdout.take().expect("a pipe"));
-    let mut text = String::new();
-    for (piece, count) in [(&z()[..0], 0), (&z()[..60], 60), (&z()[60..], 135)] {
+    let mut screen = Screen::of(&folder, "line");
+    for (piece, text) in [
+        (&z()[..0], "0 bytes received"),
+        (&z()[..60], "60 bytes received"),
+        (&z()[60..], "135 bytes received"),
+    ] {
         line.write_all(piece).expect("a piece");
-        while !text.contains(&format!("{count} bytes received")) {
-            let more = shown.recv_timeout(MOST).expect("more on the terminal");
-            text += &String::from_utf8_lossy(&more);
-        }
+        screen.wait_for(text);
     }
     drop(line);
-    assert!(ended(child).status.success());
-    text.extend(
-        shown
-            .iter()
-            .map(|more| String::from_utf8_lossy(&more).into_owned()),
-    );
+    let text = screen.ended();
     let (_, after) = text.rsplit_once("received").expect("how far it is");
     let cleared = "\x1b[2K";
-    assert!(
-        after.contains(cleared) && after.ends_with("accepted 1 0\r\n"),
-        "{text:?}"
-    );
+    assert!(after.contains(cleared), "{text:?}");
+    assert!(after.ends_with("accepted 1 0\r\n"), "{text:?}");
 }
