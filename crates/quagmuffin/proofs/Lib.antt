@@ -2,3 +2,4 @@ pub mod Small
 pub mod Bodies
 pub mod Exported
 pub mod RoundTrip
+pub mod Words

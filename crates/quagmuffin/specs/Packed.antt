@@ -1,6 +1,6 @@
 -- An answer as one number: "low 8 bits the refusal's number (0: none), the bits above its place; an accepted judge has n in bits 8-23 and m
 -- from bit 24".
-use Prim.Native.Nat.{ℕ, _+_, _*_, _/_, _%_, _≤_}
+use Prim.Native.Nat.{ℕ, _+_, _*_, _/_, _%_, _^_, _≤_, _<_}
 use mathlib.Core.Path.{_≡_}
 use mathlib.Core.Bool.{cond}
 use lib.Dec.{eqb}
@@ -39,6 +39,11 @@ pub record Packed {A : Type 0} (packed : A → ℕ) (Promise : A → Type 0) (nu
 -- what an exported call on a file promises, from what the call below it does
 abbrev pub Answered : (Answer → Type 0) → ℕ → Type 0
 Answered = Packed packAnswer
+
+-- a verdict that 64 bits hold
+abbrev pub Fits : Verdict → Type 0
+Fits (VerdictRefused k p) = (k < 256) × (p < 2 ^ 56)
+Fits (Accepted n m) = (n < 65536) × (m < 2 ^ 40)
 
 -- refusals 1 to 11, at a place within the longest file
 abbrev pub Small : ℕ → ℕ → Type 0

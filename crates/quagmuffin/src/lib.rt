@@ -1,6 +1,6 @@
 // The exported library: each call takes slices and numbers, and answers one number, the answer of the call below it, packed.
 ghost use mathlib.Core.Path.{_≡_};
-ghost use Prim.Native.Nat.{_≤_};
+ghost use Prim.Native.Nat.{_<_, _^_};
 ghost use lib.ListN.{length};
 ghost use Rattle.lent.specs.Lent.{was, left};
 ghost use Rattle.slicefile.specs.Format.{sliceTag, bodyLength};
@@ -9,16 +9,22 @@ ghost use Rattle.calls.specs.Calls.{PowersUp};
 ghost use Rattle.simulator.specs.Running.{Settles, Clocks};
 ghost use Rattle.edits.specs.Edits.{EditsInput, EditsTable};
 ghost use Rattle.quagmuffin.specs.Bodies.{ReadInto, RecordRead, RecordWritten};
-ghost use Rattle.quagmuffin.specs.Packed.{pack, packAnswer, packVerdict, SmallAnswer, SmallVerdict, Packed, Answered};
+ghost use Rattle.quagmuffin.specs.Packed.{pack, packAnswer, packVerdict, unpackVerdict, Fits, SmallAnswer, Packed, Answered};
+ghost use Rattle.quagmuffin.specs.Serial.{stateLength, packReply, unpackReply, FitsReply, readerOf, wordsOf, FeedsWords};
 use column::Verdict;
 use slicefile::Answer;
 use slicefile::HEAD;
 use slicefile::SLICE_BODY;
 use slicefile::SLICE_RECORD;
+use stream::Reader;
+use stream::Reply;
+
+// The words of a reader's state.
+const STATE: usize = 3;
 
 // A number in the low 8 bits, and what stands above it.
 fn pack_number(number: usize, above: usize) -> u64
-    requires { ⌜ (number ≤ 11) × (above ≤ 16777216) ⌝ }
+    requires { ⌜ (number < 256) × (above < 2 ^ 56) ⌝ }
     ensures { λ r. ⌜ r ≡ pack number above ⌝ }
 {
     (number + 256 * above) as u64
@@ -37,7 +43,7 @@ fn pack_answer(answer: Answer) -> u64
 
 // The judge's answer.
 fn pack_verdict(verdict: Verdict) -> u64
-    requires { ⌜ SmallVerdict verdict ⌝ }
+    requires { ⌜ Fits verdict ⌝ }
     ensures { λ r. ⌜ r ≡ packVerdict verdict ⌝ }
 {
     match verdict {
@@ -157,4 +163,80 @@ pub extern "C" fn qm_write_record(body: &[u8], n: usize, m: usize, part: &mut [u
     }
     let slice = slicerecord::decode(body);
     pack_answer(recordcalls::write_record(slice, n, m, part))
+}
+
+// The verdict that a number was packed from.
+fn unpack_verdict(number: u64) -> Verdict
+    ensures { λ r. ⌜ r ≡ unpackVerdict number ⌝ }
+{
+    if number % 256 == 0 {
+        return Verdict::Accepted {
+            n: (number / 256 % 65536) as usize,
+            m: (number / 16777216) as usize,
+        };
+    }
+    Verdict::Refused {
+        number: (number % 256) as usize,
+        place: (number / 256) as usize,
+    }
+}
+
+// A reader's reply: 0 is "more".
+fn pack_reply(reply: Reply) -> u64
+    requires { ⌜ FitsReply reply ⌝ }
+    ensures { λ r. ⌜ r ≡ packReply reply ⌝ }
+{
+    match reply {
+        Reply::More => 0,
+        Reply::Given(verdict) => pack_verdict(verdict),
+    }
+}
+
+// The reply that a number was packed from.
+fn unpack_reply(number: u64) -> Reply
+    ensures { λ r. ⌜ r ≡ unpackReply number ⌝ }
+{
+    if number == 0 {
+        return Reply::More;
+    }
+    Reply::Given(unpack_verdict(number))
+}
+
+// The reader of a state.
+fn load_reader(state: &[u64]) -> Reader
+    requires { ⌜ length (now state) ≡ stateLength ⌝ }
+    ensures { λ r. ⌜ r ≡ readerOf (was state) ⌝ }
+{
+    Reader {
+        len: state[0] as usize,
+        passed: state[1] as usize,
+        said: unpack_reply(state[2]),
+    }
+}
+
+// Stores a reader in a state.
+fn store_reader(state: &mut [u64], reader: Reader)
+    requires { ⌜ (length (now state) ≡ stateLength) × FitsReply (reader .said) ⌝ }
+    ensures { λ _. ⌜ left state ≡ wordsOf reader ⌝ }
+{
+    let said = reader.said;
+    state[0] = reader.len as u64;
+    state[1] = reader.passed as u64;
+    state[2] = pack_reply(said);
+}
+
+// Gives a reader the next run of a file's bytes, and whether no more will come: 0 is "more", else its verdict.
+#[no_mangle]
+pub extern "C" fn qm_feed(state: &mut [u64], store: &mut [u8], run: &[u8], last: u8) -> u64
+    ensures { λ r. ⌜ FeedsWords (was state) (was store) (was run) last r (left state) (left store) ⌝ }
+{
+    if state.len() != STATE {
+        return 10;
+    }
+    let reader = load_reader(state);
+    let fed = stream::feed(reader, store, run, last != 0);
+    let next = fed.reader;
+    let reply = fed.reply;
+    store_reader(state, next);
+    pack_reply(reply)
 }

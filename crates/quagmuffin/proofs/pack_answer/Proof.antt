@@ -11,7 +11,7 @@ enum-known-answer : tie.Need-enum-known-answer
 enum-known-answer c = search needs
 
 pack-number-requires : tie.Need-pack-number-requires
-pack-number-requires c κs = let s : SmallAnswer (Refused _ _) = subst SmallAnswer (c .before .answer .given .1) (c .before .before .before .pre) in (s .1, omega (arith, s .2))
+pack-number-requires c κs = let s : SmallAnswer (Refused _ _) = subst SmallAnswer (c .before .answer .given .1) (c .before .before .before .pre) in (omega (arith, s .1), omega (arith, s .2))
 
 enum-told : tie.Need-enum-told
 enum-told c = search needs

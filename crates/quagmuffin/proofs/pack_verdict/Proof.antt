@@ -3,7 +3,7 @@ use mathlib.Core.Path.{_∙_, sym, ap, subst}
 use native.Mathlib.Omega.{arith}
 use borrow.Author.Needs.{needs}
 use Rattle.column.specs.declared.Verdict.the-variants.{Refused, Accepted}
-use Rattle.quagmuffin.specs.Packed.{packVerdict, SmallVerdict}
+use Rattle.quagmuffin.specs.Packed.{packVerdict, Fits}
 use Rattle.quagmuffin.proofs.pack_verdict.Statement.{statement}
 use Rattle.quagmuffin.proofs.pack_verdict.Tie as tie
 
@@ -11,13 +11,13 @@ enum-known-verdict : tie.Need-enum-known-verdict
 enum-known-verdict c = search needs
 
 pack-number-requires : tie.Need-pack-number-requires
-pack-number-requires c κs = let s : SmallVerdict (Refused _ _) = subst SmallVerdict (c .before .verdict .given .1) (c .before .before .before .pre) in (s .1, omega (arith, s .2))
+pack-number-requires c κs = let s : Fits (Refused _ _) = subst Fits (c .before .verdict .given .1) (c .before .before .before .pre) in s
 
 enum-known-verdict-2 : tie.Need-enum-known-verdict-2
 enum-known-verdict-2 c = search needs
 
-within : (c : tie.After-known-told2) → SmallVerdict (Accepted (c .before .verdict2 .given .0 .0) (c .before .verdict2 .given .0 .1 .0))
-within c = subst SmallVerdict (c .before .verdict2 .given .1) (c .before .before .before .pre)
+within : (c : tie.After-known-told2) → Fits (Accepted (c .before .verdict2 .given .0 .0) (c .before .verdict2 .given .0 .1 .0))
+within c = subst Fits (c .before .verdict2 .given .1) (c .before .before .before .pre)
 
 mul-pack-number : tie.Need-mul-pack-number
 mul-pack-number c = omega (arith, within c .1)
