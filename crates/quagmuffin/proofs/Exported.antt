@@ -36,15 +36,15 @@ answer-back : (a : Answer) → SmallAnswer a → unpackAnswer (packAnswer a) ≡
 answer-back (Refused k p) s = let b = number-back k p (s .1) in rw (b .0, b .1, ne-eqb k 0 (λ e. omega (arith, s .0)))
 answer-back Done s = refl
 
-verdict-back : (v : Verdict) → SmallVerdict v → unpackVerdict (packVerdict v) ≡ v
+pub verdict-back : (v : Verdict) → SmallVerdict v → unpackVerdict (packVerdict v) ≡ v
 verdict-back (VerdictRefused k p) s = let b = number-back k p (s .1) in rw (b .0, b .1, ne-eqb k 0 (λ e. omega (arith, s .0)))
 verdict-back (Accepted n m) s =
     let i = pack 0 (n + 65536 * m) in
     let low : i % 256 ≡ 0 = omega arith in
     let high : i / 256 ≡ n + 65536 * m = omega arith in
-    let few : (n + 65536 * m) % 65536 ≡ n = omega (arith, s .0) in
+    let few : (n + 65536 * m) % 65536 ≡ n = omega (arith, s .1) in
     let slices : i / 256 % 65536 ≡ n = ap (λ (k : ℕ). k % 65536) high ∙ few in
-    let inputs : i / 16777216 ≡ m = omega (arith, s .0) in
+    let inputs : i / 16777216 ≡ m = omega (arith, s .1) in
     rw (low, slices, inputs)
 
 -- the promise holds of the number, unpacked

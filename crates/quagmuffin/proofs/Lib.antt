@@ -3,3 +3,4 @@ pub mod Bodies
 pub mod Exported
 pub mod RoundTrip
 pub mod Words
+pub mod Serial

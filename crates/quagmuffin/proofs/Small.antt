@@ -30,12 +30,12 @@ pub judged-small : (file : List ℕ) {v : Verdict} → Judged file v → SmallVe
 judged-small file (bad {k} {p} e) =
     let s : SmallChecked (Bad k p) = subst SmallChecked e (checked-small file) in
     (s .0, omega (arith, s .1), s .2)
-judged-small file (accepted e free) = let f = sound-file file e in (f .slices-fit, f .inputs-fit)
+judged-small file (accepted e free) = let f = sound-file file e in (f .some, f .slices-fit, f .inputs-fit)
 judged-small file (loop e below on least) = let f = sound-file file e in (omega arith, omega arith, omega (arith, f .slices-fit))
 
 pub small-fits : (v : Verdict) → SmallVerdict v → Fits v
 small-fits (Refused k p) s = (omega (arith, s .1), omega (arith, s .2))
-small-fits (Accepted n m) s = (omega (arith, s .0), omega (arith, s .1))
+small-fits (Accepted n m) s = (omega (arith, s .1), omega (arith, s .2))
 
 -- the answer of a call on a file, whose own refusal is at most 11
 pub called-small : {file : List ℕ} {own : ℕ → ℕ → ℕ} {Kept : Type 0} {Did : ℕ → ℕ → Type 0} {r : Answer} → ((n m : ℕ) → own n m ≤ 11)

@@ -22,9 +22,9 @@ use Rattle.stream.specs.declared.Fed.{Fed}
 use Rattle.stream.specs.Feeding.{foreign, Hears, judged, certain, waits, Keeps, FeedsBy, Feeds}
 use Rattle.stream.proofs.Hearing.{given-early}
 use Rattle.stream.proofs.Taking.{own-passed}
-use Rattle.quagmuffin.specs.Packed.{pack, packVerdict, unpackVerdict, Fits}
+use Rattle.quagmuffin.specs.Packed.{packVerdict, unpackVerdict, Fits, SmallVerdict}
 use Rattle.quagmuffin.specs.Serial.{stateLength, packReply, unpackReply, FitsReply, readerOf, wordsOf, FedWords, WordsBy, FeedsWords}
-use Rattle.quagmuffin.proofs.Small.{judged-small, small-fits}
+use Rattle.quagmuffin.proofs.Small.{judged-small}
 
 -- ---- a number, unpacked
 module _ (i : ℕ) where
@@ -90,30 +90,34 @@ three-read [] e = absurd (omega arith)
 pub words-again : (state : List ℕ) → length state ≡ stateLength → wordsOf (readerOf state) ≡ state
 words-again state e = ap (λ (w : ℕ). getD state 0 0 ∷ getD state 1 0 ∷ w ∷ []) (reply-again (getD state 2 0)) ∙ three-read state e
 
--- ---- what a call says and hands on fits
-hears-fit : (bytes : List ℕ) {len passed : ℕ} {b : Bool} {next : Reader} → passed ≤ sliceLimit → Hears bytes len passed b next → FitsReply (next .said)
-hears-fit bytes own (judged {v} j) = small-fits v (judged-small bytes j)
-hears-fit bytes {passed = passed} own (certain e) =
-    let g = given-early (checkFrom passed bytes) e in
-    let s : SmallChecked (Bad (g .0) (g .1)) = subst SmallChecked (g .2) (from-small bytes passed own) in
-    subst Fits (g .4) (omega (arith, s .1), omega (arith, s .2))
-hears-fit bytes own (waits e) = tt
+-- ---- what holds of the verdicts of a small number and place, and of what was said before, holds of what a call says and hands on
+module _ (P : Reply → Type 0) (small : (v : Verdict) → SmallVerdict v → P (Given v)) (waiting : P More) where
+  hears-all : (bytes : List ℕ) {len passed : ℕ} {b : Bool} {next : Reader} → passed ≤ sliceLimit → Hears bytes len passed b next → P (next .said)
+  hears-all bytes own (judged {v} j) = small v (judged-small bytes j)
+  hears-all bytes {passed = passed} own (certain e) =
+      let g = given-early (checkFrom passed bytes) e in
+      let s : SmallChecked (Bad (g .0) (g .1)) = subst SmallChecked (g .2) (from-small bytes passed own) in
+      subst (λ (v : Verdict). P (Given v)) (g .4) (small (Refused (g .0) (g .1)) (s .0, omega (arith, s .1), s .2))
+  hears-all bytes own (waits e) = waiting
 
-module _ (r : Reader) (store run : List ℕ) (last : Bool) (fed : Fed) (after : List ℕ) (fits : FitsReply (r .said)) where
-  abbrev Fitting : Type 0
-  Fitting = FitsReply (fed .reply) × FitsReply (fed .reader .said)
+  module _ (r : Reader) (store run : List ℕ) (last : Bool) (fed : Fed) (after : List ℕ) (before : P (r .said)) where
+    abbrev Both : Type 0
+    Both = P (fed .reply) × P (fed .reader .said)
 
-  keeps-fit : {reply : Reply} → FitsReply reply → Keeps reply r store fed after → Fitting
-  keeps-fit f k = (subst FitsReply (sym (k .says)) f, subst (λ (x : Reader). FitsReply (x .said)) (sym (k .same)) fits)
+    keeps-all : {reply : Reply} → P reply → Keeps reply r store fed after → Both
+    keeps-all f k = (subst P (sym (k .says)) f, subst (λ (x : Reader). P (x .said)) (sym (k .same)) before)
 
-  by-row : (sized : Bool) (said : Reply) (strange : Bool) → r .said ≡ said → foreign r ≡ strange → FeedsBy sized said strange r store run last fed after → Fitting
-  by-row false said strange e f k = keeps-fit {reply = Given (Refused 10 0)} (omega arith, omega arith) k
-  by-row true (Given v) strange e f k = keeps-fit {reply = Given v} (subst FitsReply e fits) k
-  by-row true More true e f k = keeps-fit {reply = Given (Refused 11 0)} (omega arith, omega arith) k
-  by-row true More false e f k = let h = hears-fit _ (own-passed r f) (k .takes .hears) in (subst FitsReply (sym (k .says)) h, h)
+    refused : (k : ℕ) → 1 ≤ k → k ≤ 11 → P (Given (Refused k 0))
+    refused k l h = small (Refused k 0) (l, h, omega arith)
 
-  pub feeds-fit : Feeds r store run last fed after → Fitting
-  feeds-fit f = by-row (eqb (length store) fileLimit) (r .said) (foreign r) refl refl (f .by)
+    by-row : (sized : Bool) (said : Reply) (strange : Bool) → r .said ≡ said → foreign r ≡ strange → FeedsBy sized said strange r store run last fed after → Both
+    by-row false said strange e f k = keeps-all (refused 10 (omega arith) (omega arith)) k
+    by-row true (Given v) strange e f k = keeps-all (subst P e before) k
+    by-row true More true e f k = keeps-all (refused 11 (omega arith) (omega arith)) k
+    by-row true More false e f k = let h = hears-all _ (own-passed r f) (k .takes .hears) in (subst P (sym (k .says)) h, h)
+
+    pub feeds-all : Feeds r store run last fed after → Both
+    feeds-all f = by-row (eqb (length store) fileLimit) (r .said) (foreign r) refl refl (f .by)
 
 -- ---- the two ways the exported call goes
 module _ {state store run : List ℕ} {last : ℕ} where

@@ -55,4 +55,4 @@ SmallAnswer Done = Unit {0}
 
 abbrev pub SmallVerdict : Verdict → Type 0
 SmallVerdict (VerdictRefused k p) = Small k p
-SmallVerdict (Accepted n m) = (n ≤ sliceLimit) × (m ≤ inputLimit)
+SmallVerdict (Accepted n m) = (1 ≤ n) × (n ≤ sliceLimit) × (m ≤ inputLimit)

@@ -10,6 +10,7 @@ use Rattle.stream.specs.declared.Reply.the-variants.{More, Given}
 use Rattle.stream.specs.declared.Reader.{Reader}
 use Rattle.stream.specs.declared.Fed.{Fed}
 use Rattle.stream.specs.Feeding.{reader, Feeds}
+use Rattle.stream.specs.Sessions.{Call}
 use Rattle.quagmuffin.specs.Packed.{pack, packVerdict, unpackVerdict, Fits}
 
 abbrev pub stateLength : ℕ
@@ -51,3 +52,13 @@ WordsBy true state store run last answer words after = FedWords state store run 
 
 pub record FeedsWords (state store run : List ℕ) (last answer : ℕ) (words after : List ℕ) : Type 0 where
   pub by : WordsBy (eqb (length state) stateLength) state store run last answer words after
+
+-- calls one after another, each given the words and the store that the last one left, and what their answers say
+pub data Serial : List ℕ → List ℕ → List Call → List Reply → Type 0 where
+  silence : {state store : List ℕ} → Serial state store [] []
+  call : {state store words after : List ℕ} {c : Call} {last answer : ℕ} {calls : List Call} {replies : List Reply} → isLast last ≡ c .last
+      → FeedsWords state store (c .run) last answer words after → Serial words after calls replies → Serial state store (c ∷ calls) (unpackReply answer ∷ replies)
+
+-- a fresh reader
+abbrev pub freshWords : List ℕ
+freshWords = 0 ∷ 0 ∷ 0 ∷ []

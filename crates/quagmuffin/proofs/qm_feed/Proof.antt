@@ -6,7 +6,8 @@ use lib.ListN.{getD}
 use Rattle.stream.specs.declared.Reader.{Reader}
 use Rattle.stream.specs.Feeding.{Feeds}
 use Rattle.quagmuffin.specs.Serial.{FitsReply, readerOf, isLast}
-use Rattle.quagmuffin.proofs.Words.{reply-fits, feeds-fit, words-wrong, words-fed}
+use Rattle.quagmuffin.proofs.Small.{small-fits}
+use Rattle.quagmuffin.proofs.Words.{reply-fits, feeds-all, words-wrong, words-fed}
 use Rattle.quagmuffin.proofs.qm_feed.Statement.{statement}
 use Rattle.quagmuffin.proofs.qm_feed.Tie as tie
 
@@ -30,7 +31,7 @@ fed c =
 fits : (c : tie.After-feed) → FitsReply (c .feed .result .reply) × FitsReply (c .feed .result .reader .said)
 fits c =
     let k = c .before .before .before .before .before .before .before in
-    feeds-fit _ _ _ _ _ _ (reply-fits (getD (k .before .args .state .now) 2 0) (omega (arith, k .slice-known .given 2))) (fed c)
+    feeds-all FitsReply small-fits tt _ _ _ _ _ _ (reply-fits (getD (k .before .args .state .now) 2 0) (omega (arith, k .slice-known .given 2))) (fed c)
 
 store-reader-requires : tie.Need-store-reader-requires
 store-reader-requires c κs = (c .before .before .before .before .before .before .before .before .if1 .left, fits (c .before .before .before .before) .1)
