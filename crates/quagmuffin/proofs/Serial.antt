@@ -2,27 +2,30 @@
 -- an answer and every word and byte left are is determined. Assumes nothing.
 use mathlib.Core.Path.{_≡_, _∙_, refl, sym, ap, subst}
 use mathlib.Core.Bool.{Bool, true, false}
-use mathlib.Core.List.{List, [], _∷_}
+use mathlib.Core.List.{List, [], _∷_, _++_}
 use Prim.Native.Nat.{ℕ, suc, _+_, _*_, _<_}
 use native.Mathlib.Omega.{arith}
-use borrow.Author.Tests.{eq-eqb}
+use borrow.Author.Tests.{eq-eqb, ne-eqb}
 use lib.Dec.{eqb}
 use lib.ListN.{length, getD, take}
 use Rattle.column.specs.File.{fileLimit}
+use Rattle.column.specs.Judge.{Judged}
 use Rattle.column.specs.declared.Verdict.{Verdict}
 use Rattle.column.specs.declared.Verdict.the-variants.{Refused, Accepted}
 use Rattle.stream.specs.declared.Reply.{Reply}
 use Rattle.stream.specs.declared.Reply.the-variants.{More, Given}
 use Rattle.stream.specs.declared.Reader.{Reader}
 use Rattle.stream.specs.declared.Fed.{Fed}
-use Rattle.stream.specs.Feeding.{fresh, reader, Feeds}
+use Rattle.stream.specs.Feeding.{reader, foreign, Keeps, Feeds}
 use Rattle.stream.specs.Sessions.{Call, Session, silence as none, call as one, joined, firstVerdict, Follows, noCall}
+use Rattle.stream.proofs.Calls.{wrong-told, again-told, strange-told}
+use Rattle.stream.proofs.AnyState.{accepted-kept}
 use Rattle.stream.proofs.Determined.{feeds-unique}
 use Rattle.stream.proofs.Serial.{session}
 use Rattle.quagmuffin.specs.Packed.{packVerdict, SmallVerdict}
 use Rattle.quagmuffin.specs.Serial.{stateLength, packReply, unpackReply, readerOf, wordsOf, isLast, FedWords, WordsBy, FeedsWords, Serial, silence, call, freshWords}
 use Rattle.quagmuffin.proofs.Exported.{verdict-back}
-use Rattle.quagmuffin.proofs.Words.{told-verdict, reply-again, feeds-all}
+use Rattle.quagmuffin.proofs.Words.{told-more, told-verdict, reply-again, words-again, feeds-all}
 
 -- ---- answers and words, unpacked
 not-zero : (v : Verdict) → SmallVerdict v → packVerdict v ≡ 0 → ⊥
@@ -49,6 +52,46 @@ module _ {state store run : List ℕ} {last answer : ℕ} {words after : List �
 
     pub state-told : readerOf words ≡ f .fed .reader
     state-told = ap readerOf (f .hands) ∙ ap (λ (x : Reply). reader (f .fed .reader .len) (f .fed .reader .passed) x) (back .1)
+
+-- ---- the ways a call goes, by its words
+module _ {state store run : List ℕ} {last answer : ℕ} {words after : List ℕ} (f : FeedsWords state store run last answer words after) where
+  -- nothing moves
+  abbrev Stays : ℕ → Type 0
+  Stays number = (answer ≡ number) × (words ≡ state) × (after ≡ store)
+
+  -- a state of another length
+  pub state-wrong : (length state ≡ stateLength → ⊥) → Stays 10
+  state-wrong ne = subst (λ (b : Bool). WordsBy b state store run last answer words after) (ne-eqb (length state) stateLength ne) (f .by)
+
+  module _ (three : length state ≡ stateLength) where
+    abbrev w : FedWords state store run last answer words after
+    w = words-told three f
+
+    stays : {reply : Reply} → Keeps reply (readerOf state) store (w .fed) after → Stays (packReply reply)
+    stays k =
+        (w .says ∙ ap packReply (k .says), w .hands ∙ ap wordsOf (k .same) ∙ words-again state three, k .untouched)
+
+    -- a store of another length
+    pub store-wrong : (length store ≡ fileLimit → ⊥) → Stays 10
+    store-wrong ne = stays (wrong-told ne (w .feeds))
+
+    module _ (full : length store ≡ fileLimit) where
+      -- a verdict that was given
+      pub verdict-again : (getD state 2 0 ≡ 0 → ⊥) → Stays (getD state 2 0)
+      verdict-again ne =
+          let k = stays (again-told full (told-verdict (getD state 2 0) ne) (w .feeds)) in
+          (k .0 ∙ ap packReply (sym (told-verdict (getD state 2 0) ne)) ∙ reply-again (getD state 2 0), k .1, k .2)
+
+      -- a state that no call leaves
+      pub state-strange : getD state 2 0 ≡ 0 → foreign (readerOf state) ≡ true → Stays 11
+      state-strange z e = stays (strange-told full (told-more (getD state 2 0) z) e (w .feeds))
+
+    -- whatever the state: what is accepted the judge accepts, and it is the front of the store, of so many bytes as the first word says
+    pub accepted-front : {n m : ℕ} → getD state 2 0 ≡ 0 → unpackReply answer ≡ Given (Accepted n m)
+        → let bytes = take (getD state 0 0) store ++ run in Judged bytes (Accepted n m) × (take (getD words 0 0) after ≡ bytes)
+    accepted-front z e =
+        let a = accepted-kept (readerOf state) store run (isLast last) (w .fed) after (sym (answer-told w) ∙ e) (told-more (getD state 2 0) z) (w .feeds) in
+        (a .0, ap (λ (l : List ℕ). take (getD l 0 0) after) (w .hands) ∙ a .1)
 
 -- ---- call after call
 pub serial-session : {state store : List ℕ} {calls : List Call} {replies : List Reply} → length state ≡ stateLength → Serial state store calls replies → Session (readerOf state) store calls replies

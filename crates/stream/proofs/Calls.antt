@@ -32,6 +32,9 @@ module _ {r : Reader} {store run : List ℕ} {last : Bool} {fed : Fed} {after : 
   pub feeds-wrong : (length store ≡ fileLimit → ⊥) → Keeps (Given (Refused 10 0)) r store fed after → Feeds r store run last fed after
   feeds-wrong ne k = record { by = row (calls r store run last fed after) {strange = foreign r} {said = r .said} (sym (ne-eqb (length store) fileLimit ne)) refl refl k }
 
+  pub wrong-told : (length store ≡ fileLimit → ⊥) → Feeds r store run last fed after → Keeps (Given (Refused 10 0)) r store fed after
+  wrong-told ne k = row (calls r store run last fed after) {strange = foreign r} {said = r .said} (ne-eqb (length store) fileLimit ne) refl refl (k .by)
+
   module _ (full : length store ≡ fileLimit) where
     pub feeds-again : {v : Verdict} → r .said ≡ Given v → Keeps (Given v) r store fed after → Feeds r store run last fed after
     feeds-again e k = record { by = row (calls r store run last fed after) {strange = foreign r} (sym (sized store full)) (sym e) refl k }
@@ -43,6 +46,9 @@ module _ {r : Reader} {store run : List ℕ} {last : Bool} {fed : Fed} {after : 
     feeds-run e f k = record { by = row (calls r store run last fed after) (sym (sized store full)) (sym e) (sym f) k }
 
     -- ---- told
+    pub strange-told : r .said ≡ More → foreign r ≡ true → Feeds r store run last fed after → Keeps (Given (Refused 11 0)) r store fed after
+    strange-told e f k = row (calls r store run last fed after) (sized store full) e f (k .by)
+
     pub again-told : {v : Verdict} → r .said ≡ Given v → Feeds r store run last fed after → Keeps (Given v) r store fed after
     again-told e k = row (calls r store run last fed after) {strange = foreign r} (sized store full) e refl (k .by)
 
