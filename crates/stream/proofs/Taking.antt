@@ -1,6 +1,6 @@
 -- A run taken into a store: what stands at its front is what was seen, as far as it finds room. Assumes nothing.
 use mathlib.Core.Path.{_≡_, _∙_, refl, sym, ap, ap₂, subst}
-use mathlib.Core.Bool.{Bool, true, false, _||_}
+use mathlib.Core.Bool.{Bool, true, false, true≢false, _||_}
 use mathlib.Core.List.{List, _++_, append-assoc}
 use Prim.Native.Nat.{ℕ, _+_, _-_, _≤_, _<_}
 use native.Mathlib.Omega.{arith}
@@ -11,12 +11,19 @@ use lib.Seq.{sets, sets-eq, length-sets, take-at, take-all, length-take-le}
 use Rattle.slicefile.specs.Format.{sliceLimit}
 use Rattle.slicefile.proofs.Tests.{or-left, or-right}
 use Rattle.column.specs.File.{fileLimit}
+use Rattle.column.specs.Check.{checkFile, checkFrom}
 use Rattle.column.specs.Judge.{Judged}
+use Rattle.column.specs.declared.Checked.{Checked}
+use Rattle.column.specs.declared.Checked.the-variants.{Bad, Sound}
 use Rattle.column.specs.declared.Verdict.{Verdict}
-use Rattle.stream.specs.declared.Reply.the-variants.{Given}
+use Rattle.column.specs.declared.Verdict.the-variants.{Refused}
+use Rattle.column.proofs.CheckLaws.{from-start}
+use Rattle.column.proofs.PrefixLaws.{check-cut, full-bad, full-over}
+use Rattle.stream.specs.declared.Reply.{Reply}
+use Rattle.stream.specs.declared.Reply.the-variants.{More, Given}
 use Rattle.stream.specs.declared.Reader.{Reader}
-use Rattle.stream.specs.Feeding.{reader, foreign, seen, fitting, final, Hears, JudgedOver, Takes}
-use Rattle.stream.proofs.Hearing.{hears-all}
+use Rattle.stream.specs.Feeding.{reader, foreign, seen, fitting, final, early, overfull, Hears, judged, certain, waits, Takes}
+use Rattle.stream.proofs.Hearing.{more-or-given, early-other, given-early, hears-all}
 
 -- ---- stores
 
@@ -43,6 +50,9 @@ own-len r e = ltb-false fileLimit (r .len) (or-left (ltb fileLimit (r .len)) (lt
 pub own-passed : (r : Reader) → foreign r ≡ false → r .passed ≤ sliceLimit
 own-passed r e = ltb-false sliceLimit (r .passed) (or-right (ltb fileLimit (r .len)) (ltb sliceLimit (r .passed)) e)
 
+pub start-own : (len : ℕ) → len ≤ fileLimit → foreign (reader len 0 More) ≡ false
+start-own len h = rw (le-ltb fileLimit len h)
+
 -- ---- the bytes seen
 module _ (r : Reader) (store run : List ℕ) (full : length store ≡ fileLimit) (own : r .len ≤ fileLimit) where
   pub seen-length : length (seen r store run) ≡ r .len + length run
@@ -65,12 +75,6 @@ module _ (r : Reader) (store run : List ℕ) (full : length store ≡ fileLimit)
     pub fitting-length : length (fitting r run) ≡ room
     fitting-length = length-take-le room run (omega arith)
 
-    -- the store is full, and what found no room comes behind it
-    pub over-seen : sets store (r .len) (fitting r run) ++ drop room run ≡ seen r store run
-    over-seen =
-        let all : sets store (r .len) (fitting r run) ≡ take (r .len) store ++ fitting r run = sym (take-all (r .len + length (fitting r run)) _ (omega (arith, length-sets store (r .len) (fitting r run), fitting-length))) ∙ front-stored store (fitting r run) (r .len) (omega (arith, fitting-length)) in
-        ap (λ (l : List ℕ). l ++ drop room run) all ∙ append-assoc (take (r .len) store) (fitting r run) (drop room run) ∙ ap (λ (l : List ℕ). take (r .len) store ++ l) (take-append-drop room run)
-
     pub is-final : (last : Bool) → final last (seen r store run) ≡ true
     is-final last = ap (λ (b : Bool). last || b) (lt-ltb fileLimit (length (seen r store run)) (omega (arith, seen-length))) ∙ or-true last
 
@@ -84,25 +88,71 @@ module _ (r : Reader) (store run : List ℕ) (full : length store ≡ fileLimit)
         let whole = all-fitting run-fits in
         ap₂ take (e ∙ ap (λ (b : List ℕ). r .len + length b) whole) (f ∙ ap (sets store (r .len)) whole) ∙ all-seen run-fits
 
+-- what is said of a full store stands for all bytes behind it
+full-judged : (bytes x : List ℕ) {len : ℕ} {b : Bool} {next : Reader} → length bytes ≡ fileLimit → 0 < length x → b ≡ false → Hears bytes len 0 b next
+    → (v : Verdict) × Judged (bytes ++ x) v × (overfull (next .said) ≡ Given v)
+full-judged bytes x full some e (judged j) = absurd (true≢false e)
+full-judged bytes x full some e (certain {v} g) =
+    let k = given-early (checkFrom 0 bytes) g in
+    (v, subst (Judged (bytes ++ x)) (k .4) (full-bad bytes x (omega arith) (sym (from-start bytes) ∙ k .2)), refl)
+full-judged bytes x full some e (waits g) = (Refused 8 fileLimit, go (checkFile bytes) refl (ap early (sym (from-start bytes)) ∙ g), refl)
+  where
+    go : (c : Checked) → checkFile bytes ≡ c → early (checkFile bytes) ≡ More → Judged (bytes ++ x) (Refused 8 fileLimit)
+    go (Sound n m) s m′ = full-over bytes x full some s
+    go (Bad k p) s m′ =
+        let other : k ≡ 1 → ⊥ = λ z. omega (arith, check-cut bytes (subst (λ (j : ℕ). checkFile bytes ≡ Bad j p) z s)) in
+        absurd (more-or-given (early (checkFile bytes)) m′ (ap early s ∙ sym (early-other other)))
+
 -- ---- the two ways to take a run
-same-hears : {bytes bytes′ : List ℕ} {len len′ passed : ℕ} {b b′ : Bool} {next : Reader} → bytes ≡ bytes′ → len ≡ len′ → b ≡ b′ → Hears bytes len passed b next
+pub same-hears : {bytes bytes′ : List ℕ} {len len′ passed : ℕ} {b b′ : Bool} {next : Reader} → bytes ≡ bytes′ → len ≡ len′ → b ≡ b′ → Hears bytes len passed b next
     → Hears bytes′ len′ passed b′ next
 same-hears e f g h = rw (← e, ← f, ← g) h
 
 module _ (r : Reader) (store run : List ℕ) (full : length store ≡ fileLimit) (own : r .len ≤ fileLimit) (last : Bool) where
-  pub takes-all : length run ≤ fileLimit - r .len → {next : Reader} {after : List ℕ} → after ≡ sets store (r .len) run
-      → (let bytes = take (r .len + length run) after in Hears bytes (length bytes) (r .passed) last next) → Takes r store run last next after
-  takes-all fits {next} {after} stored h =
-      let whole = all-fitting r store run full own fits in
-      let front : take (r .len + length run) after ≡ seen r store run = ap (take (r .len + length run)) stored ∙ all-seen r store run full own fits in
-      let kept : length (take (r .len + length run) after) ≡ r .len + length (fitting r run) = ap length front ∙ seen-length r store run full own ∙ ap (λ (l : List ℕ). r .len + length l) (sym whole) in
-      record { stored = stored ∙ ap (sets store (r .len)) (sym whole); hears = same-hears front kept (sym (not-final r store run full own fits last)) h }
-
-  pub takes-over : fileLimit - r .len < length run → {after : List ℕ} {v : Verdict} → after ≡ sets store (r .len) (fitting r run) → JudgedOver after v
-      → Takes r store run last (reader fileLimit (r .passed) (Given v)) after
-  takes-over long {after} {v} stored j =
+  over-heard : fileLimit - r .len < length run → {next : Reader} {said : Reply} {len : ℕ} → said ≡ overfull (next .said)
+      → (let front = seen (reader (r .len) 0 More) store (fitting r run) in Hears front len 0 (final false front) next)
+      → Hears (seen r store run) fileLimit (r .passed) (final last (seen r store run)) (reader fileLimit (r .passed) said)
+  over-heard long {next} {said} e h =
       let room = fileLimit - r .len in
-      let all : after ++ drop room run ≡ seen r store run = ap (λ (l : List ℕ). l ++ drop room run) stored ∙ over-seen r store run full own long in
-      let said : Judged (seen r store run) v = subst (λ (l : List ℕ). Judged l v) all (j (drop room run) (omega (arith, length-drop room run))) in
-      let kept : fileLimit ≡ r .len + length (fitting r run) = omega (arith, fitting-length r store run full own long) in
-      record { stored = stored; hears = same-hears refl kept refl (hears-all (seen r store run) fileLimit (r .passed) (is-final r store run full own long last) said) }
+      let part = fitting r run in
+      let start = reader (r .len) 0 More in
+      let sized : length part ≡ room = fitting-length r store run full own long in
+      go (full-judged (seen start store part) (drop room run) (seen-length start store part full own ∙ omega arith) (omega (arith, length-drop room run)) (not-final start store part full own (omega arith) false) h)
+    where
+      all : seen (reader (r .len) 0 More) store (fitting r run) ++ drop (fileLimit - r .len) run ≡ seen r store run
+      all =
+          append-assoc (take (r .len) store) (fitting r run) (drop (fileLimit - r .len) run)
+          ∙ ap (λ (l : List ℕ). take (r .len) store ++ l) (take-append-drop (fileLimit - r .len) run)
+
+      go : ((v : Verdict) × Judged (seen (reader (r .len) 0 More) store (fitting r run) ++ drop (fileLimit - r .len) run) v × (overfull (next .said) ≡ Given v))
+          → Hears (seen r store run) fileLimit (r .passed) (final last (seen r store run)) (reader fileLimit (r .passed) said)
+      go (v, j, g) =
+          rw (e ∙ g) (hears-all (seen r store run) fileLimit (r .passed) (is-final r store run full own long last) (subst (λ (l : List ℕ). Judged l v) all j))
+
+  -- all of it fits: the reader after the bytes at the front
+  module _ (fits : length run ≤ fileLimit - r .len) {after : List ℕ} (stored : after ≡ sets store (r .len) run) where
+    abbrev bytes : List ℕ
+    bytes = take (r .len + length run) after
+
+    front : bytes ≡ seen r store run
+    front = ap (take (r .len + length run)) stored ∙ all-seen r store run full own fits
+
+    pub takes-all : {next : Reader} → Hears bytes (r .len + length run) (r .passed) last next → Takes r store run last next after
+    takes-all h =
+        let whole = all-fitting r store run full own fits in
+        record {
+          stored = stored ∙ ap (sets store (r .len)) (sym whole);
+          hears = same-hears front (ap (λ (l : List ℕ). r .len + length l) (sym whole)) (sym (not-final r store run full own fits last)) h;
+        }
+
+  -- some of it doesn't: what is said of the part that does
+  pub takes-over : (long : fileLimit - r .len < length run) {next : Reader} {after : List ℕ} {said : Reply} → said ≡ overfull (next .said)
+      → Takes (reader (r .len) 0 More) store (take (fileLimit - r .len) run) false next after → Takes r store run last (reader fileLimit (r .passed) said) after
+  takes-over long {next} {after} {said} e t =
+      let part = fitting r run in
+      let sized : length part ≡ fileLimit - r .len = fitting-length r store run full own long in
+      let start = reader (r .len) 0 More in
+      record {
+        stored = t .stored ∙ ap (sets store (r .len)) (all-fitting start store part full own (omega arith));
+        hears = same-hears refl (omega arith) refl (over-heard long e (t .hears));
+      }

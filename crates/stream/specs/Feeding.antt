@@ -1,5 +1,5 @@
 -- One call of the reader: what it says, the state it hands on and the bytes in its store, for any state.
-use Prim.Native.Nat.{ℕ, _+_, _-_, _<_}
+use Prim.Native.Nat.{ℕ, _+_, _-_}
 use mathlib.Core.Path.{_≡_}
 use mathlib.Core.Bool.{Bool, true, false, cond, _||_}
 use mathlib.Core.List.{List, _++_}
@@ -35,16 +35,17 @@ abbrev pub early : Checked → Reply
 early (Bad k p) = cond (eqb k 1) More (Given (Refused k p))
 early (Sound n m) = More
 
+-- what is said of a full store when more bytes come: 8 behind it, where no other refusal is certain
+abbrev pub overfull : Reply → Reply
+overfull More = Given (Refused 8 fileLimit)
+overfull (Given v) = Given v
+
 -- the reader after some bytes, of which so many are kept and so many slices have passed before: with all of them there, the judge's verdict;
 -- else what the check says, taken up behind those slices
 pub data Hears (bytes : List ℕ) (len passed : ℕ) : Bool → Reader → Type 0 where
   judged : {v : Verdict} → Judged bytes v → Hears bytes len passed true (reader len passed (Given v))
   certain : {v : Verdict} → early (checkFrom passed bytes) ≡ Given v → Hears bytes len passed false (reader len passed (Given v))
   waits : early (checkFrom passed bytes) ≡ More → Hears bytes len passed false (reader len (passedFrom passed bytes) More)
-
--- the verdict on a full store and any bytes behind it
-abbrev pub JudgedOver : List ℕ → Verdict → Type 0
-JudgedOver store v = (x : List ℕ) → 0 < length x → Judged (store ++ x) v
 
 -- the bytes seen, with a run: those at the front of the store, and the run
 abbrev pub seen : Reader → List ℕ → List ℕ → List ℕ

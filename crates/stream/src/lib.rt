@@ -6,7 +6,7 @@ ghost use lib.ListN.{length};
 ghost use Rattle.lent.specs.Lent.{was, left};
 ghost use Rattle.slicefile.specs.Format.{sliceLimit};
 ghost use Rattle.column.specs.File.{fileLimit};
-ghost use Rattle.stream.specs.Feeding.{foreign, early, Hears, JudgedOver, Takes, Feeds};
+ghost use Rattle.stream.specs.Feeding.{foreign, early, overfull, Hears, Takes, Feeds};
 use column::Checked;
 use column::FILE_LIMIT;
 use column::Verdict;
@@ -46,34 +46,25 @@ fn early_reply(checked: Checked) -> Reply
     }
 }
 
-// The verdict on a full store and bytes that find no room in it.
-fn judge_over(store: &[u8]) -> Verdict
-    requires { ⌜ length (now store) ≡ fileLimit ⌝ }
-    ensures { λ r. ⌜ JudgedOver (was store) r ⌝ }
+// What is said of a full store when more bytes come: a verdict stays, and a file that waits for nothing but its end has bytes after it.
+fn overfull_reply(said: Reply) -> Reply
+    ensures { λ r. ⌜ r ≡ overfull said ⌝ }
 {
-    match column::check_file(store) {
-        Checked::Bad { number, place } => Verdict::Refused { number, place },
-        Checked::Sound { n, m } => Verdict::Refused {
+    match said {
+        Reply::More => Reply::Given(Verdict::Refused {
             number: 8,
             place: FILE_LIMIT,
-        },
+        }),
+        Reply::Given(verdict) => said,
     }
 }
 
-// The reader after bytes that all stand in its store.
-fn hear(bytes: &[u8], passed: usize, last: bool) -> Reader
+// The reader after bytes that all stand in its store, while more may come.
+fn hear(bytes: &[u8], passed: usize) -> Reader
     requires { ⌜ passed ≤ sliceLimit ⌝ }
-    ensures { λ r. ⌜ Hears (was bytes) (length (was bytes)) passed last r ⌝ }
+    ensures { λ r. ⌜ Hears (was bytes) (length (was bytes)) passed false r ⌝ }
 {
     let len = bytes.len();
-    if last {
-        let verdict = column::judge(bytes);
-        return Reader {
-            len,
-            passed,
-            said: Reply::Given(verdict),
-        };
-    }
     let progress = column::check_from(bytes, passed);
     let checked = progress.checked;
     let said = early_reply(checked);
@@ -87,7 +78,8 @@ fn hear(bytes: &[u8], passed: usize, last: bool) -> Reader
     }
 }
 
-// Takes a run into the store of a reader that has given no verdict yet.
+// Takes a run into the store of a reader that has given no verdict yet. Of one that finds no room, what does is taken first and checked from its
+// start.
 fn take_run(reader: Reader, store: &mut [u8], run: &[u8], last: bool) -> Reader
     requires { ⌜ (length (now store) ≡ fileLimit) × (foreign reader ≡ false) ⌝ }
     ensures { λ r. ⌜ Takes reader (was store) (was run) last r (left store) ⌝ }
@@ -96,17 +88,31 @@ fn take_run(reader: Reader, store: &mut [u8], run: &[u8], last: bool) -> Reader
     let passed = reader.passed;
     let room = FILE_LIMIT - at;
     if room < run.len() {
-        slicerecord::put_bytes(store, at, &run[..room]);
-        let verdict = judge_over(store);
+        let start = Reader {
+            len: at,
+            passed: 0,
+            said: Reply::More,
+        };
+        let full = take_run(start, store, &run[..room], false);
+        let said = full.said;
         return Reader {
             len: FILE_LIMIT,
             passed,
-            said: Reply::Given(verdict),
+            said: overfull_reply(said),
         };
     }
     slicerecord::put_bytes(store, at, run);
     let end = at + run.len();
-    hear(&store[..end], passed, last)
+    let bytes = &store[..end];
+    if last {
+        let verdict = column::judge(bytes);
+        return Reader {
+            len: end,
+            passed,
+            said: Reply::Given(verdict),
+        };
+    }
+    hear(bytes, passed)
 }
 
 // A refusal that leaves the reader as it was.
