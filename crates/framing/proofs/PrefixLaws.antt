@@ -5,7 +5,7 @@ use mathlib.Core.Bool.{Bool, true, false, not, _&&_}
 use mathlib.Core.List.{List, _++_}
 use Prim.Native.Nat.{ℕ, zero, suc, _+_, _%_, _≤_, _<_}
 use native.Mathlib.Omega.{arith}
-use borrow.Author.Tests.{le-ltb, ltb-true, ltb-false}
+use borrow.Author.Tests.{lt-ltb, le-ltb, ltb-true, ltb-false}
 use lib.Dec.{ltb, leb, eqb}
 use lib.ListN.{length, take, drop, length-append, length-drop, List·getD-append}
 use lib.Seq.{take-append-le, drop-append-le}
@@ -90,6 +90,21 @@ module _ (due : ℕ) (s : List ℕ) where
       one-of (given 1 (ltb (length s) headLength)) _ (λ z. omega (arith, short-one s headLength z))
       (later-one 0 unknown (later-one 2 undue (later-one 1 mistold (short-one s (recordLength due)))))
 
+-- tests of other numbers before a refusal 1
+none-before : (t u v : Bool) (b : ℕ) → given 2 t orElse given 4 u orElse given 3 v orElse b ≡ 1 → (t ≡ false) × (u ≡ false) × (v ≡ false)
+none-before true u v b e = absurd (omega arith)
+none-before false true v b e = absurd (omega arith)
+none-before false false true b e = absurd (omega arith)
+none-before false false false b e = (refl, refl, refl)
+
+-- a record whose header is there, and whose body is still not whole with more bytes
+pub header-waits : (due : ℕ) (s x : List ℕ) → headLength ≤ length s → headerRefusal due s ≡ 1 → length (s ++ x) < recordLength due → headerRefusal due (s ++ x) ≡ 1
+unfolding headerRefusal
+header-waits due s x room e short =
+    let enough : ltb (length s) headLength ≡ false = le-ltb (length s) headLength room in
+    let n = none-before (unknown due s) (undue due s) (mistold due s) (given 1 (ltb (length s) (recordLength due))) (rw enough at e) in
+    simp (byte-stays s x 0 (omega arith), byte-stays s x 1 (omega arith), byte-stays s x 2 (omega arith), enough-stays s x headLength enough, n .0, n .1, n .2, lt-ltb (length (s ++ x)) (recordLength due) short)
+
 -- a record with more rules on its body
 module _ (due : ℕ) (rest : List ℕ → ℕ) (s : List ℕ) where
   record-stays : (x : List ℕ) → (recordLength due ≤ length s → rest (s ++ x) ≡ rest s) → (headerRefusal due s orElse rest s ≡ 1 → ⊥)
@@ -118,6 +133,11 @@ module _ (n m number : ℕ) (s : List ℕ) where
   unfolding sliceRefusal
   slice-stays x =
       record-stays sliceTag (λ b. bodyRefusal n m number (bodyOf sliceTag b)) s x (λ h. ap (bodyRefusal n m number) (body-stays sliceTag s x h))
+
+  -- a slice whose header or body is cut
+  pub slice-short : headerRefusal sliceTag s ≡ 1 → 1 ≡ sliceRefusal n m number s
+  unfolding sliceRefusal
+  slice-short e = sym (first-one (headerRefusal sliceTag s) _ e)
 
   pub slice-cut : sliceRefusal n m number s ≡ 1 → length s < recordLength sliceTag
   unfolding sliceRefusal

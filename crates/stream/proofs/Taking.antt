@@ -22,8 +22,8 @@ use Rattle.column.proofs.PrefixLaws.{check-cut, full-bad, full-over}
 use Rattle.stream.specs.declared.Reply.{Reply}
 use Rattle.stream.specs.declared.Reply.the-variants.{More, Given}
 use Rattle.stream.specs.declared.Reader.{Reader}
-use Rattle.stream.specs.Feeding.{reader, foreign, seen, fitting, final, early, overfull, Hears, judged, certain, waits, Takes}
-use Rattle.stream.proofs.Hearing.{more-or-given, early-other, given-early, hears-all}
+use Rattle.stream.specs.Feeding.{reader, foreign, seen, fitting, final, early, StaysInside, overfull, Hears, judged, certain, waits, Takes}
+use Rattle.stream.proofs.Hearing.{more-or-given, early-other, given-early, hears-all, hears-more}
 
 -- ---- stores
 
@@ -144,6 +144,12 @@ module _ (r : Reader) (store run : List ℕ) (full : length store ≡ fileLimit)
           stored = stored ∙ ap (sets store (r .len)) (sym whole);
           hears = same-hears front (ap (λ (l : List ℕ). r .len + length l) (sym whole)) (sym (not-final r store run full own fits last)) h;
         }
+
+    -- without a check, inside a slice
+    pub takes-inside : last ≡ false → StaysInside (take (r .len) store) (r .passed) (length run) → Takes r store run last (reader (r .len + length run) (r .passed) More) after
+    takes-inside e i =
+        let w = i .waits run refl in
+        takes-all (same-hears (sym front) refl refl (hears-more (seen r store run) (r .len + length run) (r .passed) e (w .0) refl (w .1)))
 
   -- some of it doesn't: what is said of the part that does
   pub takes-over : (long : fileLimit - r .len < length run) {next : Reader} {after : List ℕ} {said : Reply} → said ≡ overfull (next .said)

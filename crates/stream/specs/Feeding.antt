@@ -1,5 +1,5 @@
 -- One call of the reader: what it says, the state it hands on and the bytes in its store, for any state.
-use Prim.Native.Nat.{ℕ, _+_, _-_}
+use Prim.Native.Nat.{ℕ, _+_, _-_, _≤_}
 use mathlib.Core.Path.{_≡_}
 use mathlib.Core.Bool.{Bool, true, false, cond, _||_}
 use mathlib.Core.List.{List, _++_}
@@ -39,6 +39,11 @@ early (Sound n m) = More
 abbrev pub overfull : Reply → Reply
 overfull More = Given (Refused 8 fileLimit)
 overfull (Given v) = Given v
+
+-- with so many bytes more, which find room, the check, taken up behind some slices, runs out of bytes in the next one
+pub record StaysInside (bytes : List ℕ) (passed more : ℕ) : Type 0 where
+  pub room : length bytes + more ≤ fileLimit
+  pub waits : (x : List ℕ) → length x ≡ more → (More ≡ early (checkFrom passed (bytes ++ x))) × (passed ≡ passedFrom passed (bytes ++ x))
 
 -- the reader after some bytes, of which so many are kept and so many slices have passed before: with all of them there, the judge's verdict;
 -- else what the check says, taken up behind those slices

@@ -1,16 +1,21 @@
 // A file that comes in runs of bytes: a reader says "more", or its verdict as soon as it is certain.
 ghost use mathlib.Core.Path.{_≡_};
-ghost use mathlib.Core.Bool.{false};
+ghost use mathlib.Core.Bool.{true, false};
 ghost use Prim.Native.Nat.{_≤_};
 ghost use lib.ListN.{length};
 ghost use Rattle.lent.specs.Lent.{was, left};
 ghost use Rattle.slicefile.specs.Format.{sliceLimit};
 ghost use Rattle.column.specs.File.{fileLimit};
-ghost use Rattle.stream.specs.Feeding.{foreign, early, overfull, Hears, Takes, Feeds};
+ghost use Rattle.stream.specs.Feeding.{foreign, early, StaysInside, overfull, Hears, Takes, Feeds};
 use column::Checked;
 use column::FILE_LIMIT;
 use column::Verdict;
+use slicefile::HEAD;
+use slicefile::SIZE_RECORD;
+use slicefile::SLICE_COUNT;
 use slicefile::SLICE_LIMIT;
+use slicefile::SLICE_RECORD;
+use slicefile::SLICE_TAG;
 
 // What a reader says: that more bytes are needed, or its verdict.
 pub enum Reply {
@@ -115,6 +120,50 @@ fn take_run(reader: Reader, store: &mut [u8], run: &[u8], last: bool) -> Reader
     hear(bytes, passed)
 }
 
+// Whether the bytes end in the body of the slice behind those that passed, and still do with so many more: then nothing more is certain.
+fn stays_inside(bytes: &[u8], passed: usize, more: usize) -> bool
+    requires { ⌜ passed ≤ sliceLimit ⌝ }
+    ensures { λ r. ⌜ (r ≡ true → StaysInside (was bytes) passed more) ⌝ }
+{
+    let at = SIZE_RECORD + SLICE_RECORD * passed;
+    if bytes.len() < at + HEAD {
+        return false;
+    }
+    if SLICE_RECORD <= more {
+        return false;
+    }
+    if at + SLICE_RECORD <= bytes.len() + more {
+        return false;
+    }
+    if framing::size_refusal(bytes) != 0 {
+        return false;
+    }
+    let n = bytes[SLICE_COUNT] as usize;
+    if n <= passed {
+        return false;
+    }
+    framing::header_refusal(SLICE_TAG, &bytes[at..]) == 1
+}
+
+// Takes a run. In the body of a slice, where most runs of a few bytes end, there is nothing to check.
+fn take(reader: Reader, store: &mut [u8], run: &[u8], last: bool) -> Reader
+    requires { ⌜ (length (now store) ≡ fileLimit) × (foreign reader ≡ false) ⌝ }
+    ensures { λ r. ⌜ Takes reader (was store) (was run) last r (left store) ⌝ }
+{
+    let at = reader.len;
+    let passed = reader.passed;
+    let waits = stays_inside(&store[..at], passed, run.len());
+    if last | !waits {
+        return take_run(reader, store, run, last);
+    }
+    slicerecord::put_bytes(store, at, run);
+    Reader {
+        len: at + run.len(),
+        passed,
+        said: Reply::More,
+    }
+}
+
 // A refusal that leaves the reader as it was.
 fn kept(number: usize, reader: Reader) -> Fed
     ensures { λ r. ⌜ (r .reply ≡ Reply.Given (Verdict.Refused number 0)) × (r .reader ≡ reader) ⌝ }
@@ -142,7 +191,7 @@ pub fn feed(reader: Reader, store: &mut [u8], run: &[u8], last: bool) -> Fed
     if (FILE_LIMIT < reader.len) | (SLICE_LIMIT < reader.passed) {
         return kept(11, reader);
     }
-    let next = take_run(reader, store, run, last);
+    let next = take(reader, store, run, last);
     let reply = next.said;
     Fed {
         reply,

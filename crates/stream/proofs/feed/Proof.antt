@@ -29,8 +29,8 @@ returns-3 c =
     feeds-strange (more .before .before .if1 .left) (more .enum-told .given .1) (c .before .if2 .taken)
     record { says = c .kept2 .ensures .0; same = c .kept2 .ensures .1; untouched = refl }
 
-take-run-requires : tie.Need-take-run-requires
-take-run-requires c κs = search needs
+take-requires : tie.Need-take-requires
+take-requires c κs = search needs
 
 same-length : tie.Need-same-length
 same-length c = search needs
@@ -39,7 +39,7 @@ returns-4 : tie.Need-returns-4
 returns-4 c =
     let run = c .before .before in
     let more = run .before .before .before .before .before in
-    feeds-run (more .before .before .if1 .left) (more .enum-told .given .1) (run .before .before .if2 .left) record { says = refl; takes = run .take-run .ensures }
+    feeds-run (more .before .before .if1 .left) (more .enum-told .given .1) (run .before .before .if2 .left) record { says = refl; takes = run .take .ensures }
 
 pub feed-spec : {M : Type 1} → statement M
 feed-spec =
@@ -52,6 +52,6 @@ feed-spec =
     returns-2
     kept-requires-2
     returns-3
-    take-run-requires
+    take-requires
     same-length
     returns-4)
