@@ -23,20 +23,23 @@
  *   record     the 127 bytes of a slice record
  *   body       124 bytes, the fields of a slice record in the file's layout: a record without its first three bytes
  *   part       the 127 bytes or more of a file from where a slice record is to stand
+ *   state      3 words, the reader's own; three zeros are a fresh reader
+ *   store      QM_STORE bytes, the reader's own; a fresh one's may hold anything
+ *   run        any bytes, also none: the next ones of a file that comes in runs
  *
- * Each function answers one number. 0 is done, but for qm_judge. A refusal has its number, 1 to 11, in the low 8 bits and its place in the
- * bits above, and then no buffer was written:
+ * Each function answers one number. 0 is done, but for qm_judge and qm_feed. A refusal has its number, 1 to 11, in the low 8 bits and its
+ * place in the bits above, and then no buffer was written, but for the state and the store, which are the reader's:
  *
  *   1   bytes run out in a record or before the end record       7   a driver that doesn't exist
  *   2   tag not 1, 2, 3                                           8   bytes after the end record
  *   3   length not the tag's                                      9   a loop
  *   4   tag or slice number not the one due                      10   a buffer of another length than named
- *   5   n, m or a choice outside its list                        11   an argument or a byte not in range, or a
+ *   5   n, m or a choice outside its list                        11   an argument, a byte or a state not in range, or a
  *   6   choices that don't go together                                word with bits 32-63 set in shift mode
  *
  * The place of 1 to 8 is the offset of the record, that of 9 the smallest signal on a loop, that of 10 and 11 is 0. A call on a file judges
  * it first and gives the judge's refusal; then 10; then 11. The two record calls test 10 (the body first), then n and m (11), then 2 to 7, at
- * place 0.
+ * place 0. qm_feed tests 10, then gives a verdict that was given before, then tests 11, then judges.
  */
 #ifndef QUAGMUFFIN_H
 #define QUAGMUFFIN_H
@@ -52,7 +55,7 @@ extern "C" {
 #define QM_NUMBER(answer) ((unsigned)((answer) & 255))
 #define QM_PLACE(answer) ((uint64_t)(answer) >> 8)
 
-/* The slices n and the outside inputs m of a file that qm_judge accepted. */
+/* The slices n and the outside inputs m of a file that qm_judge or qm_feed accepted. */
 #define QM_SLICES(answer) ((unsigned)(((answer) >> 8) & 65535))
 #define QM_INPUTS(answer) ((unsigned)((answer) >> 24))
 
@@ -83,6 +86,24 @@ uint64_t qm_read_record(const uint8_t *record, size_t record_len, size_t n, size
 
 /* Writes the slice record with these fields into the first 127 bytes of the part, and leaves the rest of the part. */
 uint64_t qm_write_record(const uint8_t *body, size_t body_len, size_t n, size_t m, uint8_t *part, size_t part_len);
+
+/* The bytes of a reader's store: those of the longest file. */
+#define QM_STORE 8136
+
+/* Gives a reader the next run of a file, and with any last but 0 says that no more will come. 0 is "more"; else it is a verdict, packed as
+ * by qm_judge (an accepted file has a slice at least, so its answer is not 0). Each call is lent the state and the store that the last one
+ * left. No other copy of the file is made.
+ *
+ * With last the verdict is the judge's on all bytes given, joined. Without it a refusal of 2 to 8 is given as soon as it is certain: whatever
+ * follows, nothing included, the judge would refuse by 2 to 8. 1, 9 and accepted are not given before the end. After a verdict every call
+ * gives it again and moves nothing. A state or a store of another length is 10, also after a verdict, and moves nothing.
+ *
+ * Word 0 of the state is the number of bytes kept, at the front of the store; those that find no room are judged and not kept. Word 1 is the
+ * number of slices that had passed at the last "more", word 2 the verdict, 0 where there is none yet. Any other state is safe as well: a
+ * word 2 that is not 0 is the answer; else a word 0 above QM_STORE or a word 1 above 64 is 11 and moves nothing; else the state is taken as
+ * it stands. Whatever the state, as long as word 2 is 0 a file is accepted only where the judge accepts the bytes kept and the run, joined;
+ * these then are the first bytes of the store, as many as word 0 says, and can be lent from there as a file. */
+uint64_t qm_feed(uint64_t *state, size_t state_len, uint8_t *store, size_t store_len, const uint8_t *run, size_t run_len, uint8_t last);
 
 #ifdef __cplusplus
 }

@@ -60,7 +60,9 @@ fn commands(section: &str) -> Vec<(String, String)> {
 fn tour_of_the_readme() {
     let folder = folder("tour");
     let commands = commands("Five minutes");
-    for word in ["judge", "explain", "show", "write", "diff", "run"] {
+    for word in [
+        "judge", "explain", "show", "write", "diff", "receive", "run",
+    ] {
         let start = format!("./quagmuffin {word} ");
         assert!(
             commands
