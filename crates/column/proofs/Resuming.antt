@@ -2,10 +2,10 @@
 -- nothing.
 use mathlib.Core.Path.{_≡_, _∙_, refl, sym, subst}
 use mathlib.Core.List.{List, _++_}
-use Prim.Native.Nat.{ℕ, zero, suc, _+_, _-_, _≤_, _<_}
+use Prim.Native.Nat.{ℕ, zero, suc, _+_, _-_, _≤_}
 use native.Mathlib.Decide.{ℕ-discrete}
 use native.Mathlib.Omega.{arith}
-use lib.ListN.{length, drop, length-drop}
+use lib.ListN.{drop, length-drop}
 use lib.Seq.{drop-append-le}
 use Rattle.slicefile.specs.Format.{sliceLimit, sliceTag, recordLength, sliceCount, inputCount}
 use Rattle.framing.specs.Framing.{sliceRefusal, sizeRefusal}

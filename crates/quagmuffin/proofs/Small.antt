@@ -1,6 +1,6 @@
 -- The refusals of a file and of the calls on it are numbered 1 to 11, at a place within the longest file; an accepted file has at most 64
 -- slices and 64 inputs. So each answer packs into 64 bits. Assumes nothing.
-use mathlib.Core.Path.{_≡_, subst}
+use mathlib.Core.Path.{subst}
 use mathlib.Core.Bool.{Bool, not, _||_}
 use mathlib.Core.List.{List}
 use Prim.Native.Nat.{ℕ, zero, suc, _≤_}
@@ -8,7 +8,7 @@ use native.Mathlib.Omega.{arith}
 use lib.Dec.{ltb, eqb}
 use lib.ListN.{length}
 use Rattle.slicefile.specs.Format.{sliceTag, recordLength, bodyOf, numberByte}
-use Rattle.rules.specs.Rules.{given, _orElse_}
+use Rattle.rules.specs.Rules.{given}
 use Rattle.framing.specs.Framing.{headerRefusal, badSize}
 use Rattle.slicefile.specs.declared.Answer.{Answer}
 use Rattle.column.specs.Clock.{State}

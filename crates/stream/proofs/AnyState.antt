@@ -1,9 +1,9 @@
 -- On any state, also one that no call left: with the sender's last word the judge decides on the bytes in the store and the run, and what is accepted the
 -- judge accepts, and it stands at the front of the store. Assumes nothing.
-use mathlib.Core.Path.{_≡_, _∙_, refl, sym, ap, subst}
+use mathlib.Core.Path.{_≡_, _∙_, refl, sym, subst}
 use mathlib.Core.Bool.{Bool, true, false, true≢false}
 use mathlib.Core.List.{List}
-use Prim.Native.Nat.{ℕ, _+_, _≤_, _<_}
+use Prim.Native.Nat.{ℕ, _≤_}
 use native.Mathlib.Omega.{arith}
 use borrow.Author.Tests.{eqb-true}
 use lib.Dec.{eqb}
@@ -20,7 +20,7 @@ use Rattle.stream.specs.declared.Reply.{Reply}
 use Rattle.stream.specs.declared.Reply.the-variants.{More, Given}
 use Rattle.stream.specs.declared.Reader.{Reader}
 use Rattle.stream.specs.declared.Fed.{Fed}
-use Rattle.stream.specs.Feeding.{foreign, seen, final, Hears, judged, certain, waits, Keeps, TakesRun, FeedsBy, Feeds}
+use Rattle.stream.specs.Feeding.{foreign, seen, Hears, judged, certain, waits, Keeps, FeedsBy, Feeds}
 use Rattle.stream.proofs.Hearing.{more-or-given, same-verdict, given-early}
 use Rattle.stream.proofs.Taking.{own-len, front-seen}
 use Rattle.stream.proofs.Calls.{run-told}

@@ -1,14 +1,13 @@
 -- What is certain from the bytes seen: exactly what the check says by a number but 1; it stays, and the verdict with it. Assumes nothing.
-use mathlib.Core.Path.{_≡_, _∙_, refl, sym, subst}
+use mathlib.Core.Path.{_≡_, refl, sym, subst}
 use mathlib.Core.Logic.{_↔_}
-use mathlib.Core.Bool.{Bool, true, false}
 use mathlib.Core.List.{List, [], _++_, append-nil, append-assoc}
 use Prim.Native.Nat.{ℕ, _≤_, _<_}
 use native.Mathlib.Omega.{arith}
 use lib.ListN.{length}
 use Rattle.column.specs.File.{fileLimit}
 use Rattle.column.specs.Check.{checkFile}
-use Rattle.column.specs.Judge.{Judged, bad, accepted, loop}
+use Rattle.column.specs.Judge.{Judged, bad, loop}
 use Rattle.column.specs.declared.Checked.{Checked}
 use Rattle.column.specs.declared.Checked.the-variants.{Bad, Sound}
 use Rattle.column.specs.declared.Verdict.{Verdict}
@@ -16,10 +15,7 @@ use Rattle.column.specs.declared.Verdict.the-variants.{Refused}
 use Rattle.column.proofs.Bounds.{SmallChecked, checked-small}
 use Rattle.column.proofs.PrefixLaws.{check-stays, check-cut, too-long}
 use Rattle.column.proofs.Verdicts.{judged-unique}
-use Rattle.stream.specs.declared.Reply.{Reply}
-use Rattle.stream.specs.declared.Reply.the-variants.{More, Given}
-use Rattle.stream.specs.Feeding.{early}
-use Rattle.stream.specs.Sessions.{Certain, Owed, ended, certain, more}
+use Rattle.stream.specs.Sessions.{Certain}
 
 -- a judge's refusal but 9 is the check's
 by-check : (file : List ℕ) {k p : ℕ} → k ≤ 8 → Judged file (Refused k p) → checkFile file ≡ Bad k p

@@ -3,22 +3,17 @@
 use mathlib.Core.Path.{_≡_, _∙_, refl, sym, ap, ap₂}
 use mathlib.Core.Bool.{Bool, true, false}
 use mathlib.Core.List.{List}
-use Prim.Native.Nat.{ℕ, _+_, _≤_, _<_}
-use native.Mathlib.Omega.{arith}
+use Prim.Native.Nat.{ℕ}
 use lib.Dec.{eqb}
-use lib.ListN.{length, take}
+use lib.ListN.{length}
 use Rattle.column.specs.File.{fileLimit}
-use Rattle.column.specs.Judge.{Judged}
 use Rattle.column.specs.declared.Verdict.{Verdict}
-use Rattle.column.specs.declared.Verdict.the-variants.{Refused, Accepted}
-use Rattle.column.proofs.Verdicts.{judged-unique, not-both, accepted-sound}
-use Rattle.column.proofs.SoundLaws.{sound-file}
-use Rattle.column.proofs.Places.{file-within}
+use Rattle.column.proofs.Verdicts.{judged-unique}
 use Rattle.stream.specs.declared.Reply.{Reply}
 use Rattle.stream.specs.declared.Reply.the-variants.{More, Given}
 use Rattle.stream.specs.declared.Reader.{Reader}
 use Rattle.stream.specs.declared.Fed.{Fed}
-use Rattle.stream.specs.Feeding.{reader, foreign, seen, Hears, judged, certain, waits, Keeps, TakesRun, FeedsBy, Feeds}
+use Rattle.stream.specs.Feeding.{reader, foreign, seen, Hears, judged, certain, waits, Keeps, FeedsBy, Feeds}
 use Rattle.stream.specs.Sessions.{Owed, ended, certain as owed-certain, more}
 use Rattle.stream.proofs.Hearing.{more-or-given, same-verdict}
 

@@ -1,12 +1,11 @@
 -- Request One: from a fresh reader, each call given the state the last one left, the verdict equals the judge's on the joined bytes once the
 -- sender says there is no more, a refusal is given as soon as it is certain, and every call after a verdict gives it again. Assumes nothing.
 use mathlib.Core.Path.{_≡_, _∙_, refl, sym, ap, subst}
-use mathlib.Core.Bool.{Bool, true, false, true≢false, _||_}
+use mathlib.Core.Bool.{Bool, true, false, true≢false}
 use mathlib.Core.List.{List, [], _∷_, _++_, append-nil, append-assoc}
 use Prim.Native.Nat.{ℕ, zero, suc, _+_, _-_, _≤_, _<_}
 use native.Mathlib.Omega.{arith}
 use borrow.Author.Tests.{le-ltb, ltb-true, ltb-false}
-use lib.Dec.{ltb}
 use lib.ListN.{length, take, getD, length-take}
 use lib.Seq.{length-sets}
 use Rattle.slicefile.specs.Format.{sliceLimit}

@@ -7,7 +7,7 @@ use native.Mathlib.Omega.{arith}
 use borrow.Author.Tests.{lt-ltb, le-ltb, ltb-false}
 use lib.Dec.{ltb}
 use lib.ListN.{length, take, drop, length-append, length-drop, take-append-drop}
-use lib.Seq.{sets, sets-eq, length-sets, take-at, take-all, length-take-le}
+use lib.Seq.{sets, sets-eq, take-at, take-all, length-take-le}
 use Rattle.slicefile.specs.Format.{sliceLimit}
 use Rattle.slicefile.proofs.Tests.{or-left, or-right}
 use Rattle.column.specs.File.{fileLimit}

@@ -1,13 +1,12 @@
 -- `column::check_from` meets its contract. The loop's invariant: the check stands at slice s. Assumes nothing.
 use mathlib.Core.Path.{_≡_, _∙_, sym, subst}
-use Prim.Native.Nat.{ℕ, _+_, _-_, _≤_, _<_}
+use Prim.Native.Nat.{_+_, _-_, _≤_, _<_}
 use native.Mathlib.Omega.{arith}
 use borrow.Author.Needs.{needs}
 use lib.ListN.{length, drop}
 use Rattle.slicefile.specs.Format.{sizeTag, sliceTag, recordLength, sliceCount, inputCount}
 use Rattle.framing.specs.Framing.{sizeRefusal, sliceRefusal}
 use Rattle.framing.proofs.RecordLaws.{size-whole}
-use Rattle.column.specs.declared.Checked.the-variants.{Bad}
 use Rattle.column.proofs.Places.{start-at}
 use Rattle.column.proofs.CheckLaws.{tail-whole, Stands, size-bad, taken-up, cut-off, slice-bad, slice-good, slices-end}
 use Rattle.column.proofs.check_from.Statement.{statement}
