@@ -144,8 +144,8 @@ check-cut file e =
     (bad-cases (sizeRefusal file) 0 _ e)
 
 -- a sound file is no longer than the longest
-pub too-long : (file : List ℕ) {n m : ℕ} → fileLimit < length file → checkFile file ≡ Sound n m → ⊥
-too-long file {n} long e = let f = sound-file file e in omega (arith, f .size, file-within file n (f .slices-fit))
+pub sound-short : (file : List ℕ) {n m : ℕ} → checkFile file ≡ Sound n m → length file ≤ fileLimit
+sound-short file {n} e = let f = sound-file file e in omega (arith, f .size, file-within file n (f .slices-fit))
 
 -- bytes enough for the longest file: a refusal stays, and a sound file is the longest, so that more bytes are refused behind it
 pub full-bad : (start rest : List ℕ) {k p : ℕ} → fileLimit ≤ length start → checkFile start ≡ Bad k p → Judged (start ++ rest) (Refused k p)
@@ -158,8 +158,8 @@ full-over start rest full some e = bad (rw full at (check-over start rest some e
 -- one byte more than that decides
 decided : (start rest : List ℕ) {v : Verdict} → fileLimit < length start → Judged start v → Judged (start ++ rest) v
 decided start rest long (bad e) = full-bad start rest (omega arith) e
-decided start rest long (accepted e free) = absurd (too-long start long e)
-decided start rest long (loop e below on least) = absurd (too-long start long e)
+decided start rest long (accepted e free) = absurd (omega (arith, sound-short start e))
+decided start rest long (loop e below on least) = absurd (omega (arith, sound-short start e))
 
 -- a file is decided by its first 8,137 bytes
 pub start-decides : (file : List ℕ) {v : Verdict} → Judged (take (fileLimit + 1) file) v → Judged file v

@@ -3,8 +3,7 @@
 use mathlib.Core.Path.{_≡_, _∙_, refl, sym, subst}
 use mathlib.Core.Bool.{Bool, true, false, true≢false}
 use mathlib.Core.List.{List}
-use Prim.Native.Nat.{ℕ, _≤_}
-use native.Mathlib.Omega.{arith}
+use Prim.Native.Nat.{ℕ}
 use borrow.Author.Tests.{eqb-true}
 use lib.Dec.{eqb}
 use lib.ListN.{length, take}
@@ -14,8 +13,7 @@ use Rattle.column.specs.Check.{checkFrom}
 use Rattle.column.specs.declared.Verdict.{Verdict}
 use Rattle.column.specs.declared.Verdict.the-variants.{Refused, Accepted}
 use Rattle.column.proofs.Verdicts.{not-both, accepted-sound}
-use Rattle.column.proofs.SoundLaws.{sound-file}
-use Rattle.column.proofs.Places.{file-within}
+use Rattle.column.proofs.PrefixLaws.{sound-short}
 use Rattle.stream.specs.declared.Reply.{Reply}
 use Rattle.stream.specs.declared.Reply.the-variants.{More, Given}
 use Rattle.stream.specs.declared.Reader.{Reader}
@@ -49,10 +47,6 @@ hears-accepted {bytes} e (judged j) = subst (Judged bytes) (same-verdict e) j
 hears-accepted {bytes} {passed = passed} e (certain g) = let k = given-early (checkFrom passed bytes) (g ∙ e) in absurd (not-both _ refl (k .4))
 hears-accepted e (waits g) = absurd (more-or-given More refl e)
 
--- a file that the judge accepts is no longer than the longest
-accepted-short : (file : List ℕ) {n m : ℕ} → Judged file (Accepted n m) → length file ≤ fileLimit
-accepted-short file {n} j = let f = sound-file file (accepted-sound file j) in omega (arith, f .size, file-within file n (f .slices-fit))
-
 module _ (r : Reader) (store run : List ℕ) (last : Bool) (fed : Fed) (after : List ℕ) {n m : ℕ} (accepts : fed .reply ≡ Given (Accepted n m)) where
   not-kept : {k : ℕ} → Keeps (Given (Refused k 0)) r store fed after → ⊥
   not-kept k = not-both _ refl (same-verdict (sym (k .says) ∙ accepts))
@@ -64,7 +58,7 @@ module _ (r : Reader) (store run : List ℕ) (last : Bool) (fed : Fed) (after : 
   by-row true More true e g o k = absurd (not-kept k)
   by-row true More false e g o k =
       let j = hears-accepted (sym (k .says) ∙ accepts) (k .takes .hears) in
-      (j, front-seen r store run (eqb-true (length store) fileLimit e) (own-len r g) (accepted-short (seen r store run) j) (hears-len (k .takes .hears)) (k .takes .stored))
+      (j, front-seen r store run (eqb-true (length store) fileLimit e) (own-len r g) (sound-short (seen r store run) (accepted-sound (seen r store run) j)) (hears-len (k .takes .hears)) (k .takes .stored))
 
   pub accepted-kept : r .said ≡ More → Feeds r store run last fed after → Judged (seen r store run) (Accepted n m) × (take (fed .reader .len) after ≡ seen r store run)
   accepted-kept o f = by-row (eqb (length store) fileLimit) (r .said) (foreign r) refl refl o (f .by)

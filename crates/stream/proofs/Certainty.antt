@@ -13,7 +13,7 @@ use Rattle.column.specs.declared.Checked.the-variants.{Bad, Sound}
 use Rattle.column.specs.declared.Verdict.{Verdict}
 use Rattle.column.specs.declared.Verdict.the-variants.{Refused}
 use Rattle.column.proofs.Bounds.{SmallChecked, checked-small}
-use Rattle.column.proofs.PrefixLaws.{check-stays, check-cut, too-long}
+use Rattle.column.proofs.PrefixLaws.{check-stays, check-cut, sound-short}
 use Rattle.column.proofs.Verdicts.{judged-unique}
 use Rattle.stream.specs.Sessions.{Certain}
 
@@ -53,4 +53,4 @@ module _ (bytes : List ℕ) where
     where
       go : (c : Checked) → checkFile bytes ≡ c → Certain bytes
       go (Bad k p) e = tests-certain e (λ z. omega (arith, check-cut bytes (subst (λ (j : ℕ). checkFile bytes ≡ Bad j p) z e)))
-      go (Sound n m) e = absurd (too-long bytes long e)
+      go (Sound n m) e = absurd (omega (arith, sound-short bytes e))
