@@ -9,20 +9,11 @@ use lib.Pow.{pow-pos, pow-add, shl-exact, shr-lt, shr-shr, split, mod-pow-add}
 use Rattle.netlist.specs.Rule.{bitAt, number}
 use Rattle.slicefile.specs.Lists.{tabulate}
 use Rattle.series7.specs.Edge.{withBit}
-
--- the number on k bits of a number, from bit j
-bits-from : (k j x : ℕ) → number (tabulate j k (bitAt x)) ≡ x / 2 ^ j % 2 ^ k
-unfolding tabulate
-bits-from zero j x = omega arith
-bits-from (suc k) j x =
-    let y = x / 2 ^ j in
-    let half : y / 2 ≡ x / 2 ^ suc j = shr-shr x j 1 ∙ ap (λ (i : ℕ). x / 2 ^ i) (add-one j) in
-    let low : y % 2 ^ suc k ≡ y / 2 % 2 ^ k * 2 + y % 2 = subst (λ (i : ℕ). y % 2 ^ i ≡ y / 2 % 2 ^ k * 2 + y % 2) (add-one k) (mod-pow-add y k 1) in
-    rw (bits-from k (suc j) x, ← half, low) (omega arith)
+use Rattle.series7.proofs.Numbers.{low-bits}
 
 -- a byte is its eight bits
 pub eight-bits : (x : ℕ) → number (tabulate 0 8 (bitAt x)) ≡ x % 256
-eight-bits x = bits-from 8 0 x ∙ omega arith
+eight-bits x = low-bits 8 x
 
 -- a power that fits
 pub power : (i : ℕ) → i < 64 → (1 * 2 ^ i) % 2 ^ 64 ≡ 2 ^ i

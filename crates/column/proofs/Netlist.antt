@@ -2,21 +2,23 @@
 -- most one table. Assumes nothing.
 use mathlib.Core.Path.{_≡_, _∙_}
 use mathlib.Core.List.{List}
-use Prim.Native.Nat.{ℕ, _+_, _/_, _%_, _<_}
+use Prim.Native.Nat.{ℕ, _+_, _*_, _/_, _%_, _<_}
 use native.Mathlib.Decide.{decLt}
 use native.Mathlib.Omega.{arith}
-use lib.ListN.{length}
+use lib.ListN.{length, getD}
 use Rattle.netlist.specs.Graph.{LoopFree, WellFormed}
+use Rattle.netlist.specs.Rule.{valueOf, applyGate, ruleOf}
 use Rattle.netlist.specs.Agree.{Agree}
 use Rattle.netlist.specs.Table.{sliceSignals, signalCount, tableLength, gateOf, storeGate, inputRoom, GateFits}
 use Rattle.netlist.proofs.Net.{one-settled}
 use Rattle.netlist.proofs.Fitting.{fits-more, fits-reads}
 use Rattle.netlist.proofs.Table.{stored-gate, kept-gate}
 use Rattle.slicefile.specs.Format.{sliceCount, inputCount}
+use Rattle.series7.specs.Signals.{sliceGate}
 use Rattle.series7.proofs.GateLaws.{gate-fits as slice-fits}
 use Rattle.column.specs.File.{sliceBody, gateAt}
 use Rattle.column.specs.Judge.{readsAt}
-use Rattle.column.specs.Clock.{envOf}
+use Rattle.column.specs.Clock.{State, envOf, SettledFor}
 use Rattle.column.proofs.Runs.{SettlesOnce}
 use Rattle.column.proofs.SoundLaws.{SoundFile}
 
@@ -46,6 +48,15 @@ module _ (file : List ℕ) {n m : ℕ} (f : SoundFile file n m) where
       by-place (no late) =
           let e : y ≡ x = omega arith in
           rw e (stored-gate table n x (gateAt file x) (omega arith) (gate-fits x l))
+
+-- in a settled table each signal of a slice holds what its gate gives
+pub slice-settled : (file : List ℕ) {st : State} {inputs values : List ℕ} → SettledFor file st inputs values → (s k : ℕ) → s < sliceCount file → k < sliceSignals
+    → getD values (sliceSignals * s + k) 0 ≡ applyGate (st .contents) (st .flops) (valueOf inputs values) (sliceGate (sliceCount file) (inputCount file) s (sliceBody file s) k)
+unfolding gateAt ruleOf
+slice-settled file t s k h l =
+    let a : (sliceSignals * s + k) / sliceSignals ≡ s = omega arith in
+    let b : (sliceSignals * s + k) % sliceSignals ≡ k = omega arith in
+    t .each (sliceSignals * s + k) (omega arith) ∙ rw (a, b)
 
 pub settles-once : (file : List ℕ) → LoopFree (readsAt file) (signalCount (sliceCount file)) → SettlesOnce file
 settles-once file free st inputs t t′ s s′ = one-settled (gateAt file) (signalCount (sliceCount file)) (well-formed file) free (envOf st inputs) t t′ s s′

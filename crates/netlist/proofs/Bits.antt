@@ -21,7 +21,8 @@ choose-small : (k one none : ℕ) → one < 2 → none < 2 → choose k one none
 choose-small zero one none h l = l
 choose-small (suc k) one none h l = h
 
-value-bit : (inputs values : List ℕ) (s : Source) → valueOf inputs values s < 2
+-- the bit on a source is one
+pub value-bit : (inputs values : List ℕ) (s : Source) → valueOf inputs values s < 2
 unfolding valueOf
 value-bit inputs values (Constant b) = bit-small b
 value-bit inputs values (Input j) = omega arith

@@ -1,1 +1,3 @@
 pub mod GateLaws
+pub mod Numbers
+pub mod CarryLaws
