@@ -80,7 +80,7 @@ fn accepted(pair: &mut Comparison, rng: &mut Prng, design: &Design) -> Compared 
 }
 
 /// Buffers of junk, with the lengths that the file names if it is whole.
-fn lent(rng: &mut Prng, file: &[u8]) -> Workbench {
+pub(crate) fn lent(rng: &mut Prng, file: &[u8]) -> Workbench {
     let n = usize::from(file.get(3).copied().unwrap_or(1));
     let m = usize::from(file.get(4).copied().unwrap_or(0));
     let mut bytes = |count| Lent::bytes(&junk(rng, count));
@@ -134,16 +134,21 @@ fn edits(pair: &mut Comparison, rng: &mut Prng, design: &Design) -> Compared {
 
 /// Clocks from a state that has nothing to do with the file's.
 fn any_state(pair: &mut Comparison, rng: &mut Prng, design: &Design) -> Compared {
-    let word = |table| random_word(rng, design, table);
-    let contents: Vec<u64> = (0..4 * design.n).map(word).collect();
-    pair.buffers.column.contents = Lent::words(&contents);
-    pair.buffers.column.flops = Lent::bytes(&junk(rng, design.n));
-    pair.buffers.column.inputs = Lent::bytes(&bits(rng, design.m));
-    pair.buffers.column.values = Lent::bytes(&junk(rng, SIGNALS * design.n));
+    scramble(rng, design, &mut pair.buffers.column);
     pair.call(Call::Settle)?;
     pair.buffers.column.values = Lent::bytes(&junk(rng, SIGNALS * design.n));
     pair.call(Call::Clock)?;
     pair.call(Call::Clock)
+}
+
+/// Leaves a random state, with junk for values.
+pub(crate) fn scramble(rng: &mut Prng, design: &Design, bench: &mut Workbench) {
+    let word = |table| random_word(rng, design, table);
+    let contents: Vec<u64> = (0..4 * design.n).map(word).collect();
+    bench.contents = Lent::words(&contents);
+    bench.flops = Lent::bytes(&junk(rng, design.n));
+    bench.inputs = Lent::bytes(&bits(rng, design.m));
+    bench.values = Lent::bytes(&junk(rng, SIGNALS * design.n));
 }
 
 /// Edits of tables of random bits, which aren't settled.

@@ -1,6 +1,7 @@
 //! The library and the model side by side: random calls on files, records and
 //! readers, and a difference as a case that can be saved and replayed.
 
+pub mod adders;
 pub mod calls;
 pub mod columns;
 pub mod comparison;

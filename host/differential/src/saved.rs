@@ -12,12 +12,11 @@ use workbench::Workbench;
 
 use crate::calls::{Buffers, Call};
 use crate::comparison::{Case, Compared, Difference};
-use crate::Counts;
 
 /// What was compared, where nothing differs; a difference is saved, and told in a panic.
-pub fn agreed(compared: Compared<Counts>) -> Counts {
+pub fn agreed<T>(compared: Compared<T>) -> T {
     match compared {
-        Ok(counts) => counts,
+        Ok(compared) => compared,
         Err(difference) => panic!("{}", save(&difference, &differences_folder())),
     }
 }

@@ -405,7 +405,7 @@ impl Design {
     }
 
     /// The carry coming into a letter.
-    fn carry_in(&self, slice: usize, letter: usize) -> Read {
+    pub(crate) fn carry_in(&self, slice: usize, letter: usize) -> Read {
         if letter != A {
             return Source::Signal(Signal::Carry(letter - 1).of_slice(slice)).into();
         }
@@ -418,7 +418,7 @@ impl Design {
     }
 
     /// The carry data of a letter.
-    fn carry_data(&self, slice: usize, letter: usize) -> Read {
+    pub(crate) fn carry_data(&self, slice: usize, letter: usize) -> Read {
         match self.slices[slice].carry_data[letter] {
             CarryData::O5 => Source::Signal(Signal::O5(letter).of_slice(slice)).into(),
             CarryData::Bypass => self.through(slice, bypass_pin(letter)),

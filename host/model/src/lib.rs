@@ -2,6 +2,7 @@
 //! paper alone and plain rather than fast. The proved
 //! program and library are compared with it.
 
+pub mod adders;
 pub mod check;
 pub mod design;
 pub mod edge;

@@ -2,6 +2,7 @@
 //! runs of the program and of the scripts, and wrong models that the files have to
 //! tell from the right one.
 
+pub mod adders;
 pub mod cases;
 pub mod column;
 pub mod command;

@@ -253,7 +253,7 @@ fn forget_slices_below(column: &mut Column) {
     }
 }
 
-fn output_code(slice: usize, output: usize) -> u16 {
+pub(crate) fn output_code(slice: usize, output: usize) -> u16 {
     (4096 + 16 * slice + output) as u16
 }
 
@@ -490,7 +490,7 @@ fn set_all_shift(body: &mut [u8; SLICE_BODY]) {
 }
 
 /// A sound column of n slices, wired upward.
-fn small_column(rng: &mut Prng, n: usize) -> Column {
+pub(crate) fn small_column(rng: &mut Prng, n: usize) -> Column {
     let m = rng.from_to(1, 63);
     let mut column = settings(rng, n, m);
     for slice in 0..n {

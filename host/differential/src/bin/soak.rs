@@ -1,5 +1,5 @@
 //! Compares the program and the library with the model on files, whole and in
-//! runs, and records of fresh seeds, for as many minutes as it is told or up to the first difference.
+//! runs, adder columns and records of fresh seeds, for as many minutes as it is told or up to the first difference.
 
 use std::hash::{BuildHasher, Hasher, RandomState};
 use std::io::{IsTerminal, Write};
@@ -12,7 +12,7 @@ use std::time::{Duration, Instant};
 use differential::calls::{by_library, Buffers, Model};
 use differential::comparison::Sides;
 use differential::saved::save;
-use differential::{columns, feeds, records, Counts};
+use differential::{adders, columns, feeds, records, Counts};
 use testkit::compare::{report, Difference};
 use testkit::random;
 use testkit::run::{differences_folder, find_judge, run};
@@ -102,7 +102,7 @@ impl Soak {
         }
     }
 
-    /// All files and records of a seed, as far as there is time.
+    /// All files, adder columns and records of a seed, as far as there is time.
     fn seed(&self, seed: u64) -> Result<(), String> {
         let saved = |difference: Box<_>| save(&difference, &differences_folder());
         for (number, file) in random::files(seed, 1).into_iter().enumerate() {
@@ -117,6 +117,14 @@ impl Soak {
             self.progress().counts += counts.map_err(saved)?;
             let counts = feeds::compare(number, &subject.file, sides, seed);
             self.progress().counts += counts.map_err(saved)?;
+            adders::compare_chains(number, &subject.file, &by_library, seed).map_err(saved)?;
+        }
+        for subject in adders::subjects(seed, 1) {
+            if self.is_over() {
+                return Ok(());
+            }
+            let added = subject.compare(&by_library, seed).map_err(saved)?;
+            self.progress().counts += added.counts;
         }
         let model = Model::of(&[]);
         let model = |call, buffers: &mut Buffers| model.call(call, buffers);

@@ -1,7 +1,8 @@
 //! Wrong models, each with one mistake that looks reasonable: in running a
-//! column here, in the record calls in `records`, in a reader's in `feeds`. None makes a signal read what
-//! the paper's doesn't depend on, since that could loop.
+//! column here, in the record calls in `records`, in a reader's in `feeds`, about adders in `adders`. But for
+//! those none makes a signal read what the paper's doesn't depend on, since that could loop.
 
+pub mod adders;
 mod edges;
 mod edits;
 pub mod feeds;

@@ -33,7 +33,7 @@ pub fn all() -> Vec<Mutant> {
 }
 
 /// The signal of a number and what it rightly reads.
-fn rightly(design: &Design, signal: usize) -> (Signal, Vec<Source>) {
+pub(super) fn rightly(design: &Design, signal: usize) -> (Signal, Vec<Source>) {
     let sources = design.sources(signal);
     (Signal::numbered(signal % SIGNALS), sources)
 }
@@ -47,7 +47,7 @@ fn f8_by_ax(design: &Design, signal: usize) -> Vec<Source> {
 }
 
 /// The two sides of a multiplexer, the other way round.
-fn exchanged(design: &Design, signal: usize, multiplexer: Signal) -> Vec<Source> {
+pub(super) fn exchanged(design: &Design, signal: usize, multiplexer: Signal) -> Vec<Source> {
     let (kind, mut sources) = rightly(design, signal);
     if kind == multiplexer {
         sources.swap(1, 2);
@@ -55,7 +55,7 @@ fn exchanged(design: &Design, signal: usize, multiplexer: Signal) -> Vec<Source>
     sources
 }
 
-fn inverted_start(design: &Design, signal: usize) -> Vec<Source> {
+pub(super) fn inverted_start(design: &Design, signal: usize) -> Vec<Source> {
     let (kind, mut sources) = rightly(design, signal);
     if matches!(kind, Signal::Carry(A) | Signal::Sum(A)) {
         if let Source::Constant(bit) = sources[1] {
