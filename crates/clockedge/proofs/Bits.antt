@@ -1,19 +1,12 @@
 -- Bits of a word. Assumes nothing.
-use mathlib.Core.Path.{_≡_, _∙_, sym, ap, subst, subst⁻¹}
-use Prim.Native.Nat.{ℕ, zero, suc, _+_, _-_, _*_, _/_, _%_, _^_, _≤_, _<_}
+use mathlib.Core.Path.{_≡_, _∙_, sym, ap, subst⁻¹}
+use Prim.Native.Nat.{ℕ, _+_, _-_, _*_, _/_, _%_, _^_, _≤_, _<_}
 use native.Mathlib.Nat.{mod-lt, mul-le-mul-right, one-mul}
-use native.Mathlib.Numerals.{add-one}
 use native.Mathlib.Omega.{arith}
 use lib.Arith.{digits-lt}
-use lib.Pow.{pow-pos, pow-add, shl-exact, shr-lt, shr-shr, split, mod-pow-add}
-use Rattle.netlist.specs.Rule.{bitAt, number}
-use Rattle.slicefile.specs.Lists.{tabulate}
+use lib.Pow.{pow-pos, pow-add, shl-exact, shr-lt, split, mod-pow-add}
+use Rattle.netlist.specs.Rule.{bitAt}
 use Rattle.series7.specs.Edge.{withBit}
-use Rattle.series7.proofs.Numbers.{low-bits}
-
--- a byte is its eight bits
-pub eight-bits : (x : ℕ) → number (tabulate 0 8 (bitAt x)) ≡ x % 256
-eight-bits x = low-bits 8 x
 
 -- a power that fits
 pub power : (i : ℕ) → i < 64 → (1 * 2 ^ i) % 2 ^ 64 ≡ 2 ^ i

@@ -9,10 +9,10 @@ use Rattle.netlist.specs.Table.{sourceOf}
 use Rattle.netlist.specs.declared.Source.{Source}
 use Rattle.slicefile.specs.Lists.{tabulate}
 use Rattle.slicefile.proofs.Tabulate.{tabulate-from, tabulate-same}
+use Rattle.series7.proofs.Numbers.{low-bits}
 use Rattle.evaluation.specs.Codes.{numberOn}
 use Rattle.clocknumbers.specs.Numbers.{flopPlace}
 use Rattle.clockedge.specs.Moves.{edgeCe, edgeSr, edgeFlop, edgeValues, bitBy, flopsBy}
-use Rattle.clockedge.proofs.Bits.{eight-bits}
 
 -- the number on k sources from place i
 on-from : (v : Source → ℕ) (e : List ℕ) (i k : ℕ) → numberOn v e i k ≡ number (tabulate i k (λ j. v (sourceOf (getD e j 0))))
@@ -30,7 +30,7 @@ module _ (v : Source → ℕ) (e : List ℕ) (old : ℕ) where
 
   pub byte-reset : v (edgeSr e) ≡ 1 → flopsBy v e old ≡ edgeValues e % 256
   unfolding bitBy
-  byte-reset h = by-bits (bitAt (edgeValues e)) (λ b. rw (eq-eqb (v (edgeSr e)) 1 h)) ∙ eight-bits (edgeValues e)
+  byte-reset h = by-bits (bitAt (edgeValues e)) (λ b. rw (eq-eqb (v (edgeSr e)) 1 h)) ∙ low-bits 8 (edgeValues e)
 
   module _ (run : v (edgeSr e) ≡ 1 → ⊥) where
     pub byte-taken : v (edgeCe e) ≡ 1 → flopsBy v e old ≡ numberOn v e flopPlace 8
@@ -39,4 +39,4 @@ module _ (v : Source → ℕ) (e : List ℕ) (old : ℕ) where
 
     pub byte-kept : (v (edgeCe e) ≡ 1 → ⊥) → flopsBy v e old ≡ old % 256
     unfolding bitBy
-    byte-kept h = by-bits (bitAt old) (λ b. rw (ne-eqb (v (edgeSr e)) 1 run, ne-eqb (v (edgeCe e)) 1 h)) ∙ eight-bits old
+    byte-kept h = by-bits (bitAt old) (λ b. rw (ne-eqb (v (edgeSr e)) 1 run, ne-eqb (v (edgeCe e)) 1 h)) ∙ low-bits 8 old

@@ -1,8 +1,9 @@
 -- The carry column of a slice: a letter is a full adder, and where the carry into it comes from. Assumes nothing.
-use mathlib.Core.Path.{_≡_, refl, ap}
+use mathlib.Core.Path.{_≡_, ap}
 use mathlib.Core.List.{List}
 use Prim.Native.Nat.{ℕ, zero, suc, _+_, _*_, _%_, _<_}
 use native.Mathlib.Omega.{arith}
+use borrow.Author.Tests.{lt-ltb, le-ltb}
 use lib.Dec.{eqb·suc-zero}
 use Rattle.netlist.specs.Rule.{choose, applyGate}
 use Rattle.netlist.specs.declared.Source.{Source}
@@ -11,19 +12,13 @@ use Rattle.sources.specs.Sources.{own, carrySignal, sumSignal}
 use Rattle.series7.specs.Signals.{startSource, carryIn, carrySource, familyOf, familyGate, sliceGate}
 use Rattle.series7.specs.declared.Family.the-variants.{Carry, Sum}
 
+-- the families of a letter's carry and of its sum
 family-carry : (l : ℕ) → l < 4 → familyOf (carrySignal l) ≡ Carry
-family-carry zero h = refl
-family-carry (suc zero) h = refl
-family-carry (suc (suc zero)) h = refl
-family-carry (suc (suc (suc zero))) h = refl
-family-carry (suc (suc (suc (suc l)))) h = absurd (omega arith)
+family-carry l h = rw (le-ltb (carrySignal l) 4 (omega arith), le-ltb (carrySignal l) 8 (omega arith), lt-ltb (carrySignal l) 12 (omega arith))
 
 family-sum : (l : ℕ) → l < 4 → familyOf (sumSignal l) ≡ Sum
-family-sum zero h = refl
-family-sum (suc zero) h = refl
-family-sum (suc (suc zero)) h = refl
-family-sum (suc (suc (suc zero))) h = refl
-family-sum (suc (suc (suc (suc l)))) h = absurd (omega arith)
+family-sum l h =
+    rw (le-ltb (sumSignal l) 4 (omega arith), le-ltb (sumSignal l) 8 (omega arith), le-ltb (sumSignal l) 12 (omega arith), lt-ltb (sumSignal l) 16 (omega arith))
 
 -- o is the exclusive-or of d and b, i the carry coming in
 adds : (o d b i : ℕ) → o ≡ (d + b) % 2 → d < 2 → b < 2 → i < 2 → (o + i) % 2 + 2 * choose o i d ≡ d + b + i
