@@ -119,7 +119,7 @@ module _ (file : List ℕ) {st : State} {inputs values : List ℕ} (t : SettledF
     whole : numberOn h (bitAt b) ≡ b
     whole = low-bits (4 * h) b ∙ mod-eq-of-lt (add .below)
 
-    -- request Two
+    -- request Two: the sums, and the top carry above them, are a + b + c
     pub adders : Adds file inputs values base h b
     adders = rw (whole, top) at (ripple a (bitAt b) sum carry (4 * h) (λ j l. step j (bitAt b j) l (omega arith) (mixed j l)) (4 * h) 0 (omega arith))
 
@@ -136,7 +136,7 @@ module _ (file : List ℕ) {st : State} {inputs values : List ℕ} (t : SettledF
     pub carry-over : topCarry values base h ≡ total file inputs values base h b / 2 ^ (4 * h)
     carry-over = rw parts (sym (digits-div (topCarry values base h) sum-fits))
 
-  -- what b is
+  -- the bits of b: what makes each O6 of the carry data
   abbrev other : ℕ → ℕ
   other j = (byte j (letterAt j) + a j) % 2
 
