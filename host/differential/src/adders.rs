@@ -1,4 +1,4 @@
-//! Carry chains as adders: columns that were wired for chosen numbers, and every chain of a file.
+//! Carry chains as adders: columns that were wired for chosen numbers, and the chains of any file.
 
 use model::adders::{Numbers, Row};
 use model::{Design, Rules};

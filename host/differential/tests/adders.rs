@@ -1,4 +1,4 @@
-//! The carry column as arithmetic: adder columns wired for chosen numbers, and every chain of random files.
+//! The carry column as arithmetic: adder columns wired for chosen numbers, and chains of random files.
 
 use std::collections::BTreeMap;
 use std::sync::LazyLock;
@@ -97,7 +97,7 @@ fn adder_columns_add() {
 
 /// Whatever contents, flip-flops and inputs are: of random files, and of adder columns, which have the highest chains.
 #[test]
-fn every_chain_of_a_random_file_adds() {
+fn chains_of_random_files_add() {
     let seed = seed();
     let mut heights = [0; 65];
     let columns = SUBJECTS.iter().map(|subject| subject.column.file.clone());
