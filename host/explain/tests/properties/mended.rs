@@ -30,7 +30,7 @@ fn mended(rng: &mut Prng, body: &[u8; SLICE_BODY], n: usize) -> Option<[u8; SLIC
         for pin in 0..PIN_COUNT {
             while (rules.driver)(pin_code(&mended, pin), n, 2).is_none() {
                 let output = 4096 + rng.below(16 * n);
-                let code = *rng.pick(&[0, 1, 256, 257, output, output]) as u16;
+                let code = *rng.pick(&[0, 1, 2, 256, 257, output, output]) as u16;
                 mended[pin_bytes(pin)].copy_from_slice(&code.to_le_bytes());
             }
         }
@@ -43,6 +43,9 @@ fn mended(rng: &mut Prng, body: &[u8; SLICE_BODY], n: usize) -> Option<[u8; SLIC
 /// high bits, another carry start in slice 0.
 fn mend_combinations(rng: &mut Prng, mended: &mut [u8; SLICE_BODY]) {
     let body = *mended;
+    let parts = Rules::paper().combinations.into_iter();
+    let mut of_modes = parts.filter(|&part| part != Combination::StartBelowSliceZero);
+    let modes_at_fault = of_modes.any(|part| part.found_in(&body));
     mended[KIND] = rng.below(2) as u8;
     for letter in LETTERS {
         let cascade = |letter: usize| body[SHIFT_DATA + letter] == 1;
@@ -51,6 +54,7 @@ fn mend_combinations(rng: &mut Prng, mended: &mut [u8; SLICE_BODY]) {
             0 if may_shift => &[0, 2],
             0 if letter == D => &[0, 1],
             0 => &[0],
+            1 if !modes_at_fault => &[1],
             _ => &[0, 1, 2],
         };
         mended[MODE + letter] = *rng.pick(modes);
