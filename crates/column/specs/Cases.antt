@@ -122,7 +122,7 @@ cases =
     -- 7
     ∷ row (drive 62 4104 ∷ []) (Accepted 1 0) Judgement
     -- 8
-    ∷ row (drive 62 2 ∷ []) (Refused 7 5) Judgement
+    ∷ row (drive 62 3 ∷ []) (Refused 7 5) Judgement
     ∷ row (drive 62 256 ∷ []) (Refused 7 5) Judgement
     ∷ row (drive 62 4108 ∷ []) (Refused 7 5) Judgement
     ∷ row (drive 62 4112 ∷ []) (Refused 7 5) Judgement

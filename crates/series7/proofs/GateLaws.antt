@@ -41,7 +41,7 @@ module _ (n m s : ℕ) (body : List ℕ) (here : s < n) where
   pub pin-fits : (p : ℕ) → In (pinSource n m body p)
   unfolding pinSource
   pin-fits p =
-      driver-cases (λ d. In (decodedSource d)) (pinCode body p) n m tt (λ b. tt) (λ j h. h)
+      driver-cases (λ d. In (decodedSource d)) (pinCode body p) n m tt (λ b. tt) (λ e. tt) (λ j h. h)
       (λ o h k. omega (arith, output-small (o .output) k))
 
   start-fits : (choice p : ℕ) → In (startSource choice s (pinSource n m body p))

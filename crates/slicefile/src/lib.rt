@@ -95,9 +95,10 @@ pub struct Output {
     pub output: usize,
 }
 
-// What drives a pin: a constant, an outside input, or one output of one slice.
+// What drives a pin: a constant, nothing (a pin left open is pulled up), an outside input, or one output of one slice.
 pub enum Driver {
     Constant(bool),
+    Open,
     Input(usize),
     Output(Output),
 }
@@ -123,6 +124,9 @@ pub fn decode_driver(code: u16, n: usize, m: usize) -> Decoded
         return Decoded::Driven(Driver::Constant(c == 1));
     }
     if c < 256 {
+        if c == 2 {
+            return Decoded::Driven(Driver::Open);
+        }
         return Decoded::Missing;
     }
     if c < 4096 {

@@ -1,9 +1,11 @@
 -- Where a slice takes its bits from. n and m are the file's slice count and outside inputs, s is a slice's number, body the body of its record, p a pin, k a
 -- signal of the slice, l a letter (A to D count 0 to 3).
 use Prim.Native.Nat.{ℕ, _+_, _*_}
-use mathlib.Core.Bool.{false, cond}
-use mathlib.Core.List.{List}
+use mathlib.Core.Path.{_≡_}
+use mathlib.Core.Bool.{true, false, cond}
+use mathlib.Core.List.{List, _∷_}
 use lib.Dec.{ltb, eqb}
+use Rattle.netlist.specs.Rule.{valueOf, signalsIn, isInput}
 use Rattle.netlist.specs.Table.{sliceSignals}
 use Rattle.netlist.specs.declared.Source.{Source}
 use Rattle.netlist.specs.declared.Source.the-variants.{Constant, Input, Signal}
@@ -26,9 +28,10 @@ own s k = Signal (sliceSignals * s + k)
 abbrev pub outputSignal : ℕ → ℕ
 outputSignal k = cond (ltb k 4) k (k + 16)
 
--- "reading a pin is reading the signal that drives it, if any"
+-- "reading a pin is reading the signal that drives it, if any"; an open one "reads as 1 and nothing depends on anything through it"
 abbrev pub driverSource : Driver → Source
 driverSource (driver.Constant b) = Constant b
+driverSource driver.Open = Constant true
 driverSource (driver.Input j) = Input j
 driverSource (driver.Output o) = own (o .slice) (outputSignal (o .output))
 
@@ -39,6 +42,13 @@ decodedSource Missing = Constant false
 
 unfoldable pub pinSource : ℕ → ℕ → List ℕ → ℕ → Source
 pinSource n m body p = decodedSource (driverOf (pinCode body p) n m)
+
+-- "it reads as 1 and nothing depends on anything through it": the bit is 1 over any inputs and values, and among the sources of a gate it is
+-- no signal and no outside input
+pub record PulledUp (s : Source) : Type 0 where
+  pub one : (inputs values : List ℕ) → valueOf inputs values s ≡ 1
+  pub no-signal : (others : List Source) → signalsIn (s ∷ others) ≡ signalsIn others
+  pub no-input : (j : ℕ) → isInput j s ≡ false
 
 -- the signals of a letter beside its O6, which is signal l: O5, carry, sum, second flip-flop
 abbrev pub o5Signal : ℕ → ℕ

@@ -65,6 +65,7 @@ fn driver_source(d: Driver) -> Source
 {
     match d {
         Driver::Constant(b) => Source::Constant(b),
+        Driver::Open => Source::Constant(true),
         Driver::Input(j) => Source::Input(j),
         Driver::Output(o) => output_source(o),
     }

@@ -9,6 +9,9 @@ use Rattle.sources.proofs.driver_source.Tie as tie
 enum-known-d : tie.Need-enum-known-d
 enum-known-d c = search needs
 
+enum-told : tie.Need-enum-told
+enum-told c = search needs
+
 enum-known-d-2 : tie.Need-enum-known-d-2
 enum-known-d-2 c = search needs
 
@@ -22,19 +25,24 @@ returns : tie.Need-returns
 returns c = sym (ap driverSource (c .before .d .given .1))
 
 returns-2 : tie.Need-returns-2
-returns-2 c = sym (ap driverSource (c .before .d2 .given .1))
+returns-2 c = search needs
 
 returns-3 : tie.Need-returns-3
-returns-3 c = c .output-source .ensures ∙ sym (ap driverSource (c .before .before .d3 .given .1))
+returns-3 c = sym (ap driverSource (c .before .d2 .given .1))
+
+returns-4 : tie.Need-returns-4
+returns-4 c = c .output-source .ensures ∙ sym (ap driverSource (c .before .before .d3 .given .1))
 
 pub driver-source-spec : {M : Type 1} → statement M
 driver-source-spec =
     tie.close
     (tie.spec
     enum-known-d
+    enum-told
     enum-known-d-2
     enum-known-d-3
     output-source-requires
     returns
     returns-2
-    returns-3)
+    returns-3
+    returns-4)
