@@ -66,7 +66,7 @@ fn deep_each_looped(n: usize) -> Column {
 /// The deep column with a driver that doesn't exist on its last pin: refused by the last test of its last record.
 fn deep_refused(n: usize) -> Column {
     let mut column = deep(n);
-    column.drive(n - 1, WE, 2);
+    column.drive(n - 1, WE, 3);
     column
 }
 

@@ -6,7 +6,7 @@ use ::calls::{Refused, Verdict};
 use model::reader::{certain, feed, Certain};
 use model::records::{read_record, write_record};
 use model::simulate::Refusal;
-use model::{Rules, Simulator, Workings};
+use model::{Design, Rules, Simulator, Workings};
 use workbench::lent::Lent;
 use workbench::Workbench;
 
@@ -175,8 +175,17 @@ impl Model {
 
     /// The same file, run in another way.
     pub fn with(&self, workings: Workings) -> Model {
+        self.running(self.simulator.with(workings))
+    }
+
+    /// The same file, where it is accepted with its design changed.
+    pub fn redesigned(&self, change: fn(&mut Design)) -> Model {
+        self.running(self.simulator.redesigned(change))
+    }
+
+    fn running(&self, simulator: Simulator) -> Model {
         Model {
-            simulator: self.simulator.with(workings),
+            simulator,
             rules: self.rules.clone(),
             certain: self.certain,
         }

@@ -46,9 +46,19 @@ pub fn compare_all(
     workings: Workings,
     seed: u64,
 ) -> Compared<Counts> {
+    compare_by(subjects, library, |model| model.with(workings), seed)
+}
+
+/// Makes all calls on every file, with another model than the subject's.
+pub fn compare_by(
+    subjects: &[Subject],
+    library: &Caller,
+    other: impl Fn(&Model) -> Model,
+    seed: u64,
+) -> Compared<Counts> {
     let mut counts = Counts::default();
     for subject in subjects {
-        let model = subject.model.with(workings);
+        let model = other(&subject.model);
         let model = |call, buffers: &mut Buffers| model.call(call, buffers);
         counts += compare(subject, Sides::new(library, &model), seed)?;
     }

@@ -65,6 +65,7 @@ fn data(slice: &Slice, letter: usize) -> &'static str {
     match (slice.carry_data[letter], slice.pins[bypass_pin(letter)]) {
         (CarryData::O5, _) => "O5",
         (_, Driver::Constant(_)) => "constant",
+        (_, Driver::Open) => "open",
         (_, Driver::Input(_)) => "input",
         (_, Driver::Output { output, .. }) => match output {
             Output::O6(_) => "O6",
@@ -92,7 +93,10 @@ fn adder_columns_add() {
     let counts = carries.iter().chain(&modes).chain([&tried.ripples]);
     assert!(counts.chain(tried.data.values()).all(|&count| count >= 10));
     let kinds: Vec<&str> = tried.data.into_keys().collect();
-    assert_eq!(kinds, ["MUX", "O5", "constant", "input", "main flip-flop"]);
+    assert_eq!(
+        kinds,
+        ["MUX", "O5", "constant", "input", "main flip-flop", "open"]
+    );
 }
 
 /// Whatever contents, flip-flops and inputs are: of random files, and of adder columns, which have the highest chains.

@@ -14,12 +14,21 @@ use testkit::random::{files, seed};
 fn every_mutant_of_running_is_caught() {
     let seed = seed();
     let subjects = columns::subjects(seed, 1);
-    let mutants = mutants::of_columns();
-    let mut missed = vec![];
-    for (name, change) in &mutants {
+    let run_otherwise = mutants::of_columns().into_iter().map(|(name, change)| {
         let mut workings = Workings::paper();
         change(&mut workings);
-        match columns::compare_all(&subjects, &by_library, workings, seed) {
+        let compared = columns::compare_all(&subjects, &by_library, workings, seed);
+        (name, compared)
+    });
+    let read_otherwise = mutants::of_decoding().into_iter().map(|(name, change)| {
+        let wrong = |model: &Model| model.redesigned(change);
+        let compared = columns::compare_by(&subjects, &by_library, wrong, seed);
+        (name, compared)
+    });
+    let mutants: Vec<_> = run_otherwise.chain(read_otherwise).collect();
+    let mut missed = vec![];
+    for (name, compared) in &mutants {
+        match compared {
             Ok(_) => missed.push(name),
             Err(difference) => println!("{name}: {}", difference.text),
         }

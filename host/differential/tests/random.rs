@@ -5,8 +5,10 @@ use differential::calls::{by_library, Answer, Buffers, Call, Model};
 use differential::comparison::Sides;
 use differential::saved::agreed;
 use differential::{columns, records};
+use model::design::Driver;
 use model::layout::*;
 use model::Workings;
+use testkit::column::pull_up;
 use testkit::random::{seed, times};
 use testkit::traps;
 
@@ -39,6 +41,35 @@ fn calls_on_directed_files() {
     let paper = Workings::paper();
     let counts = agreed(columns::compare_all(&subjects, &by_library, paper, 0));
     println!("{counts:?}, {} calls", counts.calls());
+}
+
+/// The library on the file in which every open pin is driven by the constant 1.
+fn with_ones(call: Call, buffers: &mut Buffers) -> Answer {
+    let file = buffers.column.file.clone();
+    let records = buffers.column.file.lend().get_mut(SIZE_RECORD..);
+    for record in records.unwrap_or_default().chunks_exact_mut(SLICE_RECORD) {
+        pull_up(&mut record[HEADER..]);
+    }
+    let answer = by_library(call, buffers);
+    buffers.column.file = file;
+    answer
+}
+
+/// A pin left open is as one driven by the constant 1, in all that a call says and leaves.
+#[test]
+fn open_pins_are_as_ones() {
+    let seed = seed();
+    let sides = Sides::new(&by_library, &with_ones);
+    let mut open = 0;
+    for subject in columns::subjects(seed, 1) {
+        let design = subject.model.simulator.design().ok();
+        let slices = design.into_iter().flat_map(|design| &design.slices);
+        let pins = slices.flat_map(|slice| slice.pins);
+        open += pins.filter(|&driver| driver == Driver::Open).count();
+        agreed(columns::compare(&subject, sides, seed));
+    }
+    println!("seed {seed}: {open} open pins of accepted files");
+    assert!(open >= 1000);
 }
 
 /// Every answer that a record call can give is given by many: done, and

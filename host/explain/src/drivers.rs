@@ -52,5 +52,5 @@ fn may(n: usize, m: usize) -> String {
             format!("{OUTPUT_CODES} + {SLICE_CODES}s + k {outputs} of slice s ({slices})")
         }
     };
-    format!("0 or 1; {inputs}{outputs}")
+    format!("0 or 1; {OPEN_CODE} (open); {inputs}{outputs}")
 }

@@ -25,6 +25,8 @@ pub fn constant(bit: bool) -> String {
 pub fn driver(driver: Driver) -> String {
     match driver {
         Driver::Constant(bit) => constant(bit),
+        // Pulled up.
+        Driver::Open => format!("{} /* open */", constant(true)),
         Driver::Input(input) => format!("inputs[{input}]"),
         Driver::Output { slice, output } => match output {
             Output::O6(letter) => signal(slice, Signal::O6(letter)),

@@ -6,7 +6,7 @@ use export::{iverilog, verilog, Netlist, Stimulus};
 use model::layout::*;
 use model::{Simulator, Workings};
 use testkit::cases::worked_file;
-use testkit::column::{z_slicem, Column};
+use testkit::column::{z, z_slicem, Column};
 
 /// The signals of each clock of a file in iverilog; nothing where it isn't installed.
 fn run(name: &str, file: &[u8], clocks: usize, inputs: Vec<String>) -> Option<Vec<Vec<u8>>> {
@@ -18,11 +18,16 @@ fn run(name: &str, file: &[u8], clocks: usize, inputs: Vec<String>) -> Option<Ve
     Some(iverilog::run(&cells, &path, &source).expect("a run"))
 }
 
-/// In each clock of a worked case the signals that are 1.
-fn ones(case: usize, clocks: usize) -> Option<Vec<Vec<usize>>> {
-    let rows = run(&format!("case-{case}"), &worked_file(case), clocks, vec![])?;
+/// In each clock of a file the signals that are 1.
+fn ones_of(name: &str, file: &[u8], clocks: usize) -> Option<Vec<Vec<usize>>> {
+    let rows = run(name, file, clocks, vec![])?;
     let ones = |row: &Vec<u8>| (0..row.len()).filter(|&x| row[x] == 1).collect();
     Some(rows.iter().map(ones).collect())
+}
+
+/// The same of a worked case.
+fn ones(case: usize, clocks: usize) -> Option<Vec<Vec<usize>>> {
+    ones_of(&format!("case-{case}"), &worked_file(case), clocks)
 }
 
 #[test]
@@ -92,5 +97,18 @@ fn case_10_contents() {
 fn case_11_set_reset_over_enable() {
     if let Some(ones) = ones(11, 2) {
         assert_eq!(ones, [vec![], vec![24]]);
+    }
+}
+
+/// A1 is open, and contents A give it on. AX is open: F7A takes A's O6. CE is open: main A takes AX, second A its O5.
+#[test]
+fn open_pins_are_1() {
+    let column = z().contents(0, A, 2).set(0, MAIN + A, 5);
+    let open = |column: Column, pin| column.pin(0, pin, 2);
+    let file = ["A1", "AX", "CE"].into_iter().fold(column, open).bytes();
+    if let Some(ones) = ones_of("open", &file, 2) {
+        let settled = vec![0, 4, 12, 16, 20];
+        let clocked = [&settled[..], &[24, 28]].concat();
+        assert_eq!(ones, [settled, clocked]);
     }
 }

@@ -124,6 +124,20 @@ fn reads_standard_input() {
     );
 }
 
+/// A pin left open is pulled up, and marked.
+#[test]
+fn open_pins_are_marked() {
+    let column = Column::zeros(1, 0).pin(0, "A1", 1).pin(0, "WE", 2);
+    saved("open.bin", &column.bytes());
+    let source = source(&["open.bin"]);
+    for line in [
+        "  wire s0_A1 = 1'b1;\n",
+        "  wire s0_WE = 1'b1 /* open */;\n",
+    ] {
+        assert!(source.contains(line), "{line}");
+    }
+}
+
 /// A's O6 in each clock is input 0.
 #[test]
 fn inputs_clock_by_clock() {

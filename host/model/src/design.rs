@@ -63,10 +63,11 @@ pub enum SecondInput {
     Bypass,
 }
 
-/// What drives a pin.
+/// What drives a pin: nothing, where it is left open and the board pulls it up.
 #[derive(Clone, Copy, Debug, PartialEq, Eq)]
 pub enum Driver {
     Constant(bool),
+    Open,
     Input(usize),
     Output { slice: usize, output: Output },
 }
@@ -106,6 +107,7 @@ pub fn driver(code: u16, n: usize, m: usize) -> Option<Driver> {
     match code {
         0 => Some(Driver::Constant(false)),
         1 => Some(Driver::Constant(true)),
+        OPEN_CODE => Some(Driver::Open),
         INPUT_CODES..OUTPUT_CODES => {
             let input = usize::from(code - INPUT_CODES);
             (input < m).then_some(Driver::Input(input))
@@ -391,6 +393,7 @@ impl Design {
     pub fn pin(&self, slice: usize, pin: usize) -> Source {
         match self.slices[slice].pins[pin] {
             Driver::Constant(bit) => Source::Constant(bit),
+            Driver::Open => Source::Constant(true),
             Driver::Input(input) => Source::Input(input),
             Driver::Output { slice, output } => Source::Signal(output.signal().of_slice(slice)),
         }

@@ -63,8 +63,9 @@ pub fn bypass_pin(letter: usize) -> usize {
     24 + letter
 }
 
-/// The first codes of outside inputs and of outputs, how many codes a slice has,
-/// and how many of them are outputs.
+/// The code of a pin left open, the first codes of outside inputs and of outputs,
+/// how many codes a slice has, and how many of them are outputs.
+pub const OPEN_CODE: u16 = 2;
 pub const INPUT_CODES: u16 = 256;
 pub const OUTPUT_CODES: u16 = 4096;
 pub const SLICE_CODES: u16 = 16;

@@ -38,6 +38,13 @@ impl Simulator {
         Simulator { workings, judged }
     }
 
+    /// The same file, where it is accepted with its design changed.
+    pub fn redesigned(&self, change: fn(&mut Design)) -> Simulator {
+        let mut simulator = self.clone();
+        simulator.judged.iter_mut().for_each(change);
+        simulator
+    }
+
     /// The judge's answer.
     pub fn design(&self) -> Result<&Design, Refusal> {
         self.judged.as_ref().map_err(|&refusal| refusal)

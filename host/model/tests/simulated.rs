@@ -98,6 +98,19 @@ fn case_11() {
     assert_eq!(running.flops, [1]);
 }
 
+/// A1 open and contents A that give it on; CE and AX open, and main A takes AX; the same with SR open and used.
+#[test]
+fn open_pins() {
+    assert_eq!(Running::new(&[(62, 2), (10, 2)]).settle(), [0, 4, 12, 20]);
+    let taking = [(51, 5), (110, 2), (118, 2)];
+    let reset = [&taking[..], &[(61, 1), (120, 2)]].concat();
+    for (bytes, left) in [(&taking[..], 1), (&reset, 0)] {
+        let mut running = Running::new(bytes);
+        running.clock();
+        assert_eq!(running.flops, [left]);
+    }
+}
+
 /// The file's refusal comes first, then lengths, then what is out of range.
 #[test]
 fn refusals_in_order() {

@@ -77,9 +77,16 @@ fn case_7() {
 
 #[test]
 fn case_8() {
-    for code in [2, 256, 4108, 4112] {
+    for code in [3, 256, 4108, 4112] {
         assert_eq!(judge(&z_driven(A1, code)), refused(7, 5));
     }
+}
+
+/// All 31 pins left open.
+#[test]
+fn open_pins() {
+    let pins: Vec<(usize, u8)> = (0..31).map(|pin| (62 + 2 * pin, 2)).collect();
+    assert_eq!(judge(&z_with(&pins)), ACCEPTED);
 }
 
 /// SLICEM, D shift, DX and WE at 1.

@@ -3,7 +3,7 @@
 use model::layout::*;
 use quagmuffin::{judge, Accepted, Refused};
 use testkit::cases::{long_files, sizes, truncations, worked, worked_file};
-use testkit::column::Column;
+use testkit::column::{z, z_slicem, Column};
 use testkit::traps;
 use workbench::Workbench;
 
@@ -83,6 +83,70 @@ fn case_11_set_reset_over_enable() {
     assert_eq!(bench.flops.get(), [1]);
     assert_eq!(bench.settle(), Ok(()));
     assert_eq!(ones(&bench), [24]);
+}
+
+/// Contents A give pin A1 on: an open one is 1.
+#[test]
+fn an_open_table_pin_is_1() {
+    let column = z().pin(0, "A1", 2).contents(0, A, 2);
+    let bench = Workbench::settled(column.bytes(), &[]);
+    assert_eq!(ones(&bench), [0, 4, 12, 20]);
+}
+
+/// The carry data are the bypass pins, AX is the carry coming in, and of all contents only bit 63 of A is 1.
+#[test]
+fn open_table_and_bypass_pins_are_1() {
+    let column = z().set_letters(0, CARRY_DATA, 1).set(0, CARRY_START, 2);
+    let column = column.contents(0, A, 1 << 63).opened();
+    let bench = Workbench::settled(column.bytes(), &[]);
+    // A's O6 is 1: its carry is the one coming in, and its sum 0. The others' O6 are 0: their carries are their data, their sums the carries
+    // before them. By AX F7A is A's O6, by BX F8 is F7A.
+    assert_eq!(ones(&bench), [0, 8, 9, 10, 11, 13, 14, 15, 16, 18]);
+}
+
+/// CE is open, and AX, which main A takes. A used SR that is open sets and resets at every clock, over CE.
+#[test]
+fn open_ce_and_sr_are_1() {
+    let taking = z().set(0, MAIN + A, 5).pin(0, "CE", 2).pin(0, "AX", 2);
+    for (column, left) in [
+        (taking.clone(), 1),
+        (taking.clone().pin(0, "SR", 2), 1),
+        (taking.clone().pin(0, "SR", 2).set(0, SET_RESET_PIN, 1), 0),
+        (
+            taking
+                .opened()
+                .set(0, SET_RESET_PIN, 1)
+                .set(0, SET_RESET_VALUES, 0xA0),
+            0xA0,
+        ),
+    ] {
+        let mut bench = Workbench::up(column.bytes());
+        assert_eq!(bench.clock(), Ok(()));
+        assert_eq!(bench.flops.get(), [left]);
+    }
+}
+
+/// Cases 9 and 10 with the pins open that are 1 there.
+#[test]
+fn open_we_data_and_address_are_1() {
+    for (mode, word) in [(2, 1), (1, 1 << 63)] {
+        let column = z_slicem().set(0, MODE + D, mode).opened();
+        let mut bench = Workbench::up(column.bytes());
+        assert_eq!(bench.clock(), Ok(()));
+        assert_eq!(bench.contents.get(), [0, 0, 0, word]);
+    }
+}
+
+/// Nothing depends on an input through an open pin: a stale table stays as it is, and only the input's byte is replaced.
+#[test]
+fn an_input_touches_no_open_pin() {
+    let file = Column::zeros(2, 1).opened().bytes();
+    let mut bench = Workbench::settled(file, &[0]);
+    bench.values.lend().fill(1);
+    let mut expected = bench.clone();
+    expected.inputs.lend()[0] = 1;
+    assert_eq!(bench.edit_input(0, 1), Ok(()));
+    assert_eq!(bench, expected);
 }
 
 #[test]

@@ -77,7 +77,7 @@ fn bodies() {
     decided_at_the_last(&slice(0, 1), refused(4, 5));
     decided_at_the_last(&slice(1, 2), refused(5, 5));
     decided_at_the_last(&slice(2, 1), refused(6, 5));
-    decided_at_the_last(&slice(62, 2), refused(7, 5));
+    decided_at_the_last(&slice(62, 3), refused(7, 5));
     let second = Column::zeros(2, 0).set(1, 0, 0).bytes();
     decided_at_the_last(&second[..259], refused(4, 132));
 }

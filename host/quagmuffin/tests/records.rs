@@ -51,6 +51,18 @@ fn the_record_in_z() {
     assert_eq!(part.get(), record);
 }
 
+/// Every pin left open stays so, read and written again.
+#[test]
+fn open_pins_stay_open() {
+    let body = z().opened().slices[0];
+    let mut part = Lent::bytes(&[7; SLICE_RECORD]);
+    assert_eq!(write_record(&body, 1, 0, part.lend()), Ok(()));
+    assert_eq!(part.get()[HEADER + PINS..], [2, 0].repeat(PIN_COUNT));
+    let mut lent = Lent::bytes(&[7; SLICE_BODY]);
+    assert_eq!(read_record(part.get(), 1, 0, lent.lend()), Ok(()));
+    assert_eq!(lent.get(), body);
+}
+
 /// The record refused by the reader, for n and m; and by the writer for its body, where the header is right.
 fn refuse(record: &[u8], n: usize, m: usize, number: u8) {
     let before = Lent::bytes(&[7; SLICE_BODY]);
@@ -99,7 +111,7 @@ fn order_of_refusals() {
         (HEADER + NUMBER, 4, 3, 4),
         (HEADER + MAIN + C, 6, 5, 5),
         (HEADER + MODE + A, 1, 0, 6),
-        (HEADER + PINS, 2, 1, 7),
+        (HEADER + PINS, 3, 2, 7),
     ];
     for (at, wrong, _, _) in mends.into_iter().rev() {
         record[at] = wrong;

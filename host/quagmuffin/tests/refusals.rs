@@ -43,7 +43,7 @@ fn a_refused_file() {
     refuse(&ALL, &bench, 1, 0, "no byte");
     let looped = Workbench::of(z().pin(0, "A1", 4100).bytes());
     refuse(&ALL, &looped, 9, 4, "a loop");
-    let missing = Workbench::of(z_slicem().pin(0, "WE", 2).bytes());
+    let missing = Workbench::of(z_slicem().pin(0, "WE", 3).bytes());
     refuse(&ALL, &missing, 7, 5, "no such driver");
     let last = Workbench::of(Column::zeros(64, 0).set(63, KIND, 2).bytes());
     refuse(&ALL, &last, 5, 8006, "a choice of the last slice");

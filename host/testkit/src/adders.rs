@@ -123,10 +123,13 @@ fn column(rng: &mut Prng, n: usize, row: Row, start: u8, addends: Addends) -> Ad
     }
 }
 
-/// The codes of all that has a known bit before anything settles, by kind: constants, inputs, main flip-flops, and MUX outputs that show a
-/// second one. Kinds that have none are left out.
+/// The codes of all that has a known bit before anything settles, by kind: constants and open pins, inputs, main flip-flops, and MUX
+/// outputs that show a second one. Kinds that have none are left out.
 fn known(column: &Column, inputs: &[u8], bit: bool) -> Vec<Vec<u16>> {
     let mut kinds = vec![vec![u16::from(bit)], vec![], vec![], vec![]];
+    if bit {
+        kinds[0].push(OPEN_CODE);
+    }
     for (input, &byte) in inputs.iter().enumerate() {
         if (byte == 1) == bit {
             kinds[1].push(INPUT_CODES + input as u16);

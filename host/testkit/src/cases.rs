@@ -41,7 +41,7 @@ pub fn worked() -> Vec<Case> {
         column_case("6: A1 by 4100", z().pin(0, "A1", 4100), "refused 9 4"),
         column_case("6: A6 by 4100", z().pin(0, "A6", 4100), "accepted 1 0"),
         column_case("7: A1 by 4104", z().pin(0, "A1", 4104), "accepted 1 0"),
-        column_case("8: driver 2", z().pin(0, "A1", 2), "refused 7 5"),
+        column_case("8: driver 3", z().pin(0, "A1", 3), "refused 7 5"),
         column_case("8: driver 256", z().pin(0, "A1", 256), "refused 7 5"),
         column_case("8: driver 4108", z().pin(0, "A1", 4108), "refused 7 5"),
         column_case("8: driver 4112", z().pin(0, "A1", 4112), "refused 7 5"),

@@ -41,6 +41,14 @@ impl Column {
         self
     }
 
+    /// With every pin left open.
+    pub fn opened(mut self) -> Column {
+        for slice in 0..self.slices.len() {
+            (0..PIN_COUNT).for_each(|pin| self.drive(slice, pin, 2));
+        }
+        self
+    }
+
     /// With a table's contents replaced.
     pub fn contents(mut self, slice: usize, letter: usize, word: u64) -> Column {
         self.fill(slice, letter, word);
@@ -64,6 +72,15 @@ impl Column {
         }
         file.extend([3, 0, 0]);
         file
+    }
+}
+
+/// Drives the open pins of a slice's body by the constant 1.
+pub fn pull_up(body: &mut [u8]) {
+    for pin in 0..PIN_COUNT {
+        if pin_code(body, pin) == OPEN_CODE {
+            body[pin_bytes(pin)].copy_from_slice(&1u16.to_le_bytes());
+        }
     }
 }
 

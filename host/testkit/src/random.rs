@@ -261,8 +261,12 @@ fn constant_or_input(rng: &mut Prng, m: usize) -> u16 {
     if m > 0 && rng.chance(50) {
         256 + rng.below(m) as u16
     } else {
-        rng.below(2) as u16
+        constant_or_open(rng)
     }
+}
+
+fn constant_or_open(rng: &mut Prng) -> u16 {
+    rng.below(3) as u16
 }
 
 fn any_output(rng: &mut Prng, n: usize) -> u16 {
@@ -298,7 +302,7 @@ fn sound_output(rng: &mut Prng, n: usize, slice: usize, pin: usize, upward: bool
             };
             output_code(from, rng.below(12))
         }
-        _ => rng.below(2) as u16,
+        _ => constant_or_open(rng),
     }
 }
 

@@ -23,6 +23,7 @@ pub fn all() -> Vec<Case> {
         shift_contents(),
         carry_starts(),
         drivers(),
+        open_pins(),
         order_of_rules(),
         first_bad_record(),
         bytes_after(),
@@ -137,7 +138,7 @@ pub fn wrong_lengths() -> Vec<Case> {
 pub fn cut_bodies() -> Vec<Case> {
     let wrong_number = [2, 124, 0, 7];
     let wrong_choice = [2, 124, 0, 0, 9, 9];
-    let wrong_driver = [&[2, 124, 0][..], &[0; 62], &[2, 0]].concat();
+    let wrong_driver = [&[2, 124, 0][..], &[0; 62], &[3, 0]].concat();
     vec![
         case("size record without m", vec![1, 2, 0, 1], "refused 1 0"),
         case(
@@ -477,14 +478,14 @@ pub fn carry_starts() -> Vec<Case> {
 /// Codes at their edges on all 31 pins, read or not.
 pub fn drivers() -> Vec<Case> {
     // With n = 3, m = 2, on pins of slice 1.
-    let exist = [0, 1, 256, 257, 4107, 4112 + 11, 4128 + 8, 4128 + 11];
+    let exist = [0, 1, 2, 256, 257, 4107, 4112 + 11, 4128 + 8, 4128 + 11];
     let missing = [
-        2,
         3,
         255,
         258,
         320,
         511,
+        514,
         4095,
         4096 + 12,
         4096 + 15,
@@ -522,12 +523,10 @@ pub fn drivers() -> Vec<Case> {
     }
     for letter in LETTERS {
         let pin = PIN_NAMES[table_pin(letter, 1)];
-        let column = shifting(&[letter]).pin(0, pin, 2);
-        cases.push(column_case(
-            format!("unread {pin} by 2"),
-            column,
-            "refused 7 5",
-        ));
+        for (code, line) in [(2, "accepted 1 0"), (3, "refused 7 5")] {
+            let column = shifting(&[letter]).pin(0, pin, code);
+            cases.push(column_case(format!("unread {pin} by {code}"), column, line));
+        }
     }
     let limits = || Column::zeros(64, 64);
     cases.extend([
@@ -556,12 +555,39 @@ pub fn drivers() -> Vec<Case> {
     cases
 }
 
+/// Through pins left open nothing depends on anything, in every mode.
+pub fn open_pins() -> Vec<Case> {
+    let modes = [
+        ("logic", z()),
+        (
+            "bypass carries",
+            z().set_letters(0, CARRY_DATA, 1).set(0, CARRY_START, 2),
+        ),
+        ("memory", z_slicem().set_letters(0, MODE, 1)),
+        ("shift", shifting(&LETTERS)),
+    ];
+    let mut cases = vec![];
+    for (mode, column) in modes {
+        let open = column.opened();
+        let looped = open.clone().pin(0, "A2", 4096);
+        let missing = open.clone().pin(0, "WE", 3);
+        cases.extend([
+            column_case(format!("{mode}: all open"), open, "accepted 1 0"),
+            column_case(format!("{mode}: open, a loop"), looped, "refused 9 0"),
+            column_case(format!("{mode}: open, WE by 3"), missing, "refused 7 5"),
+        ]);
+    }
+    let most = Column::zeros(64, 64).opened();
+    cases.push(column_case("64 slices, all open", most, "accepted 64 64"));
+    cases
+}
+
 /// In one record 4 goes before 5, 5 before 6, 6 before 7.
 pub fn order_of_rules() -> Vec<Case> {
     let wrong_number = |column: Column| column.set(0, NUMBER, 1);
     let wrong_choice = |column: Column| column.set(0, SET_RESET_PIN, 2);
     let wrong_start = |column: Column| column.set(0, CARRY_START, 3);
-    let wrong_driver = |column: Column| column.pin(0, "A1", 2);
+    let wrong_driver = |column: Column| column.pin(0, "A1", 3);
     let mut cases = vec![
         column_case("4 over 5", wrong_choice(wrong_number(z())), "refused 4 5"),
         column_case("4 over 7", wrong_driver(wrong_number(z())), "refused 4 5"),
@@ -615,7 +641,7 @@ pub fn order_of_rules() -> Vec<Case> {
 /// The first bad record decides, whatever the later ones hold.
 pub fn first_bad_record() -> Vec<Case> {
     let two = || Column::zeros(2, 0);
-    let bad_driver_first = || two().pin(0, "WE", 2);
+    let bad_driver_first = || two().pin(0, "WE", 3);
     let cut_after_bad = bad_driver_first().bytes()[..140].to_vec();
     let mut bad_tag_after_bad = bad_driver_first().bytes();
     bad_tag_after_bad[132] = 9;
@@ -648,7 +674,7 @@ pub fn first_bad_record() -> Vec<Case> {
             bad_driver_first().set(1, MODE, 1),
             "refused 7 5",
         ),
-        column_case("7 twice", bad_driver_first().pin(1, "A1", 2), "refused 7 5"),
+        column_case("7 twice", bad_driver_first().pin(1, "A1", 3), "refused 7 5"),
         column_case(
             "6, then 5",
             two().set(0, CARRY_START, 3).set(1, KIND, 2),
@@ -656,7 +682,7 @@ pub fn first_bad_record() -> Vec<Case> {
         ),
         column_case(
             "a loop, then 7",
-            two().pin(0, "A1", 4096).pin(1, "WE", 2),
+            two().pin(0, "A1", 4096).pin(1, "WE", 3),
             "refused 7 132",
         ),
     ]

@@ -30,6 +30,7 @@ groups! {
     shift_contents
     carry_starts
     drivers
+    open_pins
     order_of_rules
     first_bad_record
     bytes_after

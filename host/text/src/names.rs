@@ -60,10 +60,14 @@ pub fn number(digits: &str) -> Option<usize> {
     digits.parse().ok().filter(|_| is_number && is_short)
 }
 
+/// What stands for a pin that is left open.
+pub const OPEN: &str = "open";
+
 /// A driver by its code. Inputs and slices that the column doesn't have are named too; a code that stands for nothing is written as a number.
 pub fn driver(code: u16) -> String {
     match code {
         0 | 1 => code.to_string(),
+        OPEN_CODE => OPEN.to_string(),
         INPUT_CODES..OUTPUT_CODES => format!("in {}", code - INPUT_CODES),
         _ => match wire_of(code) {
             Some(Wire::Signal(number)) => signal(number),
@@ -75,7 +79,7 @@ pub fn driver(code: u16) -> String {
 /// The wire that a code stands for in a column that is large enough.
 pub fn wire_of(code: u16) -> Option<Wire> {
     match model::design::driver(code, usize::MAX, usize::MAX)? {
-        Driver::Constant(_) => None,
+        Driver::Constant(_) | Driver::Open => None,
         Driver::Input(input) => Some(Wire::Input(input)),
         Driver::Output { slice, output } => Some(Wire::Signal(output.signal().of_slice(slice))),
     }
@@ -111,7 +115,8 @@ mod tests {
         for (code, name) in [
             (0, "0"),
             (1, "1"),
-            (2, "code 2"),
+            (2, "open"),
+            (3, "code 3"),
             (255, "code 255"),
             (256, "in 0"),
             (319, "in 63"),

@@ -3,7 +3,7 @@
 use std::collections::HashMap;
 
 use model::design::SIGNALS;
-use model::layout::SLICE_BODY;
+use model::layout::{OPEN_CODE, SLICE_BODY};
 
 use crate::contents;
 use crate::fields::{fields, kind, Field, Kind, NONE};
@@ -33,7 +33,15 @@ pub struct Parsed {
 const MOST_WIRES: usize = 64;
 
 /// Words that are no names: they stand for something else in a text, in inputs or in what a run writes.
-const KEPT: [&str; 6] = ["in", "code", "inputs", "signed", "clock", "clk"];
+const KEPT: [&str; 7] = [
+    "in",
+    "code",
+    names::OPEN,
+    "inputs",
+    "signed",
+    "clock",
+    "clk",
+];
 
 /// Reads a text.
 pub fn parse(text: &str) -> Result<Parsed, Mistake> {
@@ -239,17 +247,17 @@ fn choice(line: &mut Line, names: &[String]) -> Result<u8, Mistake> {
     Ok(place as u8)
 }
 
-/// `0`, `1`, `code 7`, or a wire that drives pins.
+/// `0`, `1`, `open`, `code 7`, or a wire that drives pins.
 fn driver(line: &mut Line, names: &Names) -> Result<u16, Mistake> {
     if line.take("code") {
         return Ok(line.number(usize::from(u16::MAX))? as u16);
     }
-    for (word, code) in [("0", 0), ("1", 1)] {
+    for (word, code) in [("0", 0), ("1", 1), (names::OPEN, OPEN_CODE)] {
         if line.take(word) {
             return Ok(code);
         }
     }
-    let due = "0, 1, `code 7`, an input (`in 3`), an output of a slice (`s0.A.O6`, `s0.AMUX`, `s0.AQ`) or a name of one is due";
+    let due = "0, 1, `open`, `code 7`, an input (`in 3`), an output of a slice (`s0.A.O6`, `s0.AMUX`, `s0.AQ`) or a name of one is due";
     let no_driver = line.mistake(due);
     names::code_of(wire(line, names, due)?).ok_or(no_driver)
 }

@@ -33,6 +33,18 @@ fn full() -> Column {
         .pin(1, "WE", 4112)
 }
 
+/// A pin left open by its name or by its code, and one that no line drives.
+#[test]
+fn open_pins() {
+    let open = records(z().pin(0, "A1", 2));
+    let text = "slices 1\ninputs 0\n\nslice 0 SLICEL\n  A1 = open\n";
+    assert_eq!(show(&open), text);
+    for driver in ["open", "code 2"] {
+        let text = format!("slices 1\nslice 0\nA1 = {driver}\nA2 = 0\n");
+        assert_eq!(parse(&text).expect("a text").records, open);
+    }
+}
+
 const FULL: &str = "slices 2
 inputs 4
 
@@ -205,6 +217,8 @@ const MISTAKES: &[(&str, &str)] = &[
     ("name in3 = in 0", "1:6+3 `in3`: a name is"),
     ("name in03 = in 0", "1:6+4 `in03`: a name is"),
     ("name clock = in 0", "1:6+5 `clock`: a name is"),
+    ("name open = in 0", "1:6+4 `open`: a name is"),
+    ("name a = open", "1:10+4 `open`: an input"),
     (
         "slices 0\nslice 0",
         "2:1+5 `slice`: the column has no slices",
@@ -247,14 +261,18 @@ const MISTAKES_IN_A_SLICE: &[(&str, &str)] = &[
     ("  A7 = 1", "3+2 `A7`: no line begins so"),
     (
         "A1 = 2",
-        "6+1 `2`: 0, 1, `code 7`, an input (`in 3`), an output",
+        "6+1 `2`: 0, 1, `open`, `code 7`, an input (`in 3`), an output",
     ),
+    ("A1 = open 2", "11+1 `2`: nothing more"),
     ("A1 = in 3840", "9+4 `3840`: a number from 0 to 3839"),
-    ("A1 = s0.A.sum", "6+8 `s0.A.sum`: 0, 1, `code 7`, an input"),
-    ("A1 = s9999.AQ", "6+8 `s9999.AQ`: 0, 1, `code 7`"),
+    (
+        "A1 = s0.A.sum",
+        "6+8 `s0.A.sum`: 0, 1, `open`, `code 7`, an input",
+    ),
+    ("A1 = s9999.AQ", "6+8 `s9999.AQ`: 0, 1, `open`, `code 7`"),
     ("A1 = code 65536", "11+5 `65536`: a number from 0 to 65535"),
-    ("A1 = step", "6+4 `step`: 0, 1, `code 7`"),
-    ("A1 =", "5+1 the line ends here: 0, 1, `code 7`"),
+    ("A1 = step", "6+4 `step`: 0, 1, `open`, `code 7`"),
+    ("A1 =", "5+1 the line ends here: 0, 1, `open`, `code 7`"),
     (
         "A mode shft",
         "8+4 `shft`: logic, memory, shift or `choice 7`",

@@ -80,7 +80,7 @@ pub fn written(output: &Output, status: i32) -> String {
 
 /// A file with a pin that has no driver.
 pub fn broken() -> Vec<u8> {
-    z().pin(0, "A1", 2).bytes()
+    z().pin(0, "A1", 3).bytes()
 }
 
 /// Of the random files of a seed some that are accepted, of one slice up to 64.

@@ -17,7 +17,7 @@ fn show_statuses() {
 inputs 0
 
 slice 0 SLICEL
-  A1 = code 2
+  A1 = code 3
 ";
     assert_writes(&folder.run(&["show", "broken"]), 0, text);
     // What is shown is shown again.
@@ -36,7 +36,7 @@ slice 0 SLICEL
 #[test]
 fn write_statuses() {
     let folder = Folder::new("write");
-    folder.put("text", "slices 1\nslice 0\nA1 = code 2\n");
+    folder.put("text", "slices 1\nslice 0\nA1 = code 3\n");
     let output = folder.run(&["write", "text", "-o", "new"]);
     assert_writes(&output, 1, "new: refused 7 5\n");
     assert_eq!(folder.get("new"), broken());
@@ -78,6 +78,7 @@ fn show_and_write_again() {
         worked_file(4),
         worked_file(9),
         broken(),
+        z_slicem().opened().bytes(),
         shifting.contents(0, A, 0x1234).bytes(),
         Column::zeros(64, 64).bytes(),
     ] {
@@ -94,7 +95,7 @@ fn diff_statuses() {
     assert_writes(&folder.run(&["diff", "z", "z"]), 0, "");
     let changes = "- slice 0 SLICEL\n+ slice 0 SLICEM\n-   A1 = 0\n+   A1 = 1\n";
     assert_writes(&folder.run(&["diff", "z", "text"]), 1, changes);
-    let changes = "  slice 0 SLICEL\n-   A1 = code 2\n+   A1 = s0.A.O6\n";
+    let changes = "  slice 0 SLICEL\n-   A1 = code 3\n+   A1 = s0.A.O6\n";
     assert_writes(&folder.run(&["diff", "broken", "looped"]), 1, changes);
     let output = folder.run(&["diff", "z", "empty"]);
     assert_fails(&output, "quagmuffin: empty: refused 1 0; ");

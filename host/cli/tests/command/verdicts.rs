@@ -69,7 +69,7 @@ fn explain_statuses() {
     let folder = Folder::with_files("explain");
     let output = folder.run(&["explain", "z"]);
     assert_writes(&output, 0, "z: accepted 1 0: no fault\n");
-    folder.put("two", z().pin(0, "A1", 2).set(0, KIND, 7).bytes());
+    folder.put("two", z().pin(0, "A1", 3).set(0, KIND, 7).bytes());
     for (name, start, part) in [
         (
             "looped",

@@ -3,20 +3,28 @@
 //! those none makes a signal read what the paper's doesn't depend on, since that could loop.
 
 pub mod adders;
+mod decoding;
 mod edges;
 mod edits;
 pub mod feeds;
 pub mod records;
 mod signals;
 
-use model::Workings;
+use model::{Design, Workings};
 
 /// A mistake's name, and how it changes the paper's workings.
 pub type Mutant = (&'static str, fn(&mut Workings));
 
+/// A mistake's name, and how it changes what is read out of a file.
+pub type WrongDecoder = (&'static str, fn(&mut Design));
+
 pub fn of_columns() -> Vec<Mutant> {
     let families = [signals::all(), edges::all(), edits::all(), tests()];
     families.into_iter().flatten().collect()
+}
+
+pub fn of_decoding() -> Vec<WrongDecoder> {
+    decoding::all()
 }
 
 /// Refusals that aren't given.

@@ -5,6 +5,7 @@ use std::sync::LazyLock;
 use crate::calls::{Answer, Buffers, Call, Caller, Model};
 use model::layout::*;
 use model::records::slice_record;
+use testkit::column::pull_up;
 use testkit::mutants::{slice, WrongRules};
 
 /// A wrong model of the record calls.
@@ -127,6 +128,7 @@ fn by_hand() -> Vec<Wrong> {
         rules(),
         refused_stores(),
         stores(),
+        open_pins(),
     ];
     families.into_iter().flatten().collect()
 }
@@ -266,6 +268,26 @@ fn stores() -> Vec<Wrong> {
             let answer = rightly(call, buffers);
             if !reads(call) && answer == Answer::Done {
                 buffers.part.lend()[SLICE_RECORD..].fill(0);
+            }
+            answer
+        }),
+    ]
+}
+
+/// Pins left open that become constants on the way.
+fn open_pins() -> Vec<Wrong> {
+    vec![
+        ("reader gives an open pin as 1", |call, buffers| {
+            let answer = rightly(call, buffers);
+            if reads(call) && answer == Answer::Done {
+                pull_up(buffers.body.lend());
+            }
+            answer
+        }),
+        ("writer writes an open pin as 1", |call, buffers| {
+            let answer = rightly(call, buffers);
+            if !reads(call) && answer == Answer::Done {
+                pull_up(&mut buffers.part.lend()[HEADER..]);
             }
             answer
         }),

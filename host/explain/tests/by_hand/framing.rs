@@ -171,7 +171,7 @@ fn something_else() {
 #[test]
 fn what_a_wrong_tag_does_not_hide() {
     let column = Column::zeros(3, 0).pin(0, "A1", 4096);
-    let column = column.set(1, KIND, 2).pin(2, "WE", 2);
+    let column = column.set(1, KIND, 2).pin(2, "WE", 3);
     for tag in [0, 1, 3, 9] {
         let number = if tag == 1 || tag == 3 { 4 } else { 2 };
         let file = with(column.clone(), 132, tag);

@@ -43,7 +43,7 @@ fn m_as_it_stands() {
     assert_eq!(places(&column.bytes()), [(5, 0), (7, 5)]);
     let may = &explained(&column.bytes()).faults[1].may;
     assert!(
-        may.starts_with("0 or 1; 256 to 320 (in 0 to in 64); "),
+        may.starts_with("0 or 1; 2 (open); 256 to 320 (in 0 to in 64); "),
         "{may}"
     );
 }

@@ -7,7 +7,7 @@ use super::*;
 fn in_several_slices() {
     let column = Column::zeros(4, 0)
         .set(0, KIND, 9)
-        .pin(0, "WE", 2)
+        .pin(0, "WE", 3)
         .set(1, NUMBER, 3)
         .set(2, MODE + A, 1)
         .set(2, MODE + D, 1)
@@ -35,13 +35,13 @@ fn in_several_slices() {
 #[test]
 fn in_one_slice() {
     let column = z().set(0, NUMBER, 7).set(0, SET_RESET_PIN, 2);
-    let column = column.set(0, CARRY_START, 3).pin(0, "A1", 2);
+    let column = column.set(0, CARRY_START, 3).pin(0, "A1", 3);
     assert_eq!(places(&column.bytes()), [(4, 5), (5, 5), (6, 5), (7, 5)]);
 }
 
 #[test]
 fn a_driver_and_a_loop() {
-    let column = Column::zeros(2, 0).pin(0, "WE", 2).pin(1, "A1", 4112);
+    let column = Column::zeros(2, 0).pin(0, "WE", 3).pin(1, "A1", 4112);
     assert_eq!(places(&column.bytes()), [(7, 5), (9, 32)]);
     assert_eq!(
         explained(&column.bytes()).note,

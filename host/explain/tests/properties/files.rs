@@ -57,7 +57,7 @@ pub fn damaged(rng: &mut Prng, n: usize) -> Column {
         }
         for _ in 0..rng.from_to(3, 14) {
             let code = match rng.below(9) {
-                0 => *rng.pick(&[2, 258, 4108, 4096 + 16 * n]),
+                0 => *rng.pick(&[2, 3, 258, 4108, 4096 + 16 * n]),
                 _ => 4096 + 16 * rng.below(n) + rng.below(12),
             };
             column.drive(slice, rng.below(28), code as u16);

@@ -35,7 +35,7 @@ fn wrong(number: usize, body: &[u8], n: usize, m: usize) -> Vec<(u8, usize)> {
     wrong.extend(miscombined(number, body).into_iter().map(|at| (6, at)));
     for at in (62..124).step_by(2) {
         let code = usize::from(body[at]) + 256 * usize::from(body[at + 1]);
-        let exists = code < 2
+        let exists = code <= 2
             || (256..256 + m).contains(&code)
             || (4096..4096 + 16 * n).contains(&code) && code % 16 < 12;
         if !exists {

@@ -7,9 +7,11 @@ pub enum Mistake {
     Cells(&'static [&'static str], fn(&mut Cell)),
     /// In the signals whose names end so, of those that no primitive drives: what drives them then.
     Assigned(&'static str, fn(&Wire) -> String),
+    /// In the pins: what drives them then.
+    Pins(fn(&Wire) -> String),
 }
 
-use Mistake::{Assigned, Cells};
+use Mistake::{Assigned, Cells, Pins};
 
 const LOGIC: &[&str] = &["LUT6_2"];
 const MEMORY: &[&str] = &["RAM64X1D"];
@@ -22,7 +24,11 @@ const FLIP_FLOPS: &[&str] = &["FDRE", "FDSE"];
 const SET: &[&str] = &["FDSE"];
 
 /// Every mistake by its name.
-pub const ALL: [(&str, Mistake); 28] = [
+pub const ALL: [(&str, Mistake); 29] = [
+    (
+        "open pins are 0",
+        Pins(|wire| wire.driver.replace("1'b1 /* open */", "1'b0")),
+    ),
     (
         "pins 1 and 6 exchanged",
         Cells(LOGIC, |cell| exchange(cell, "I0", "I5")),
@@ -133,6 +139,10 @@ impl Mistake {
                 let wires = slice.assigned.iter_mut();
                 let named = wires.filter(|wire| wire.name.ends_with(end));
                 named.for_each(|wire| wire.driver = driver(wire));
+            }
+            Pins(driver) => {
+                let wires = slice.pins.iter_mut();
+                wires.for_each(|wire| wire.driver = driver(wire));
             }
         }
     }

@@ -48,6 +48,16 @@ fn decoding() -> Vec<Mutant> {
             Output::Mux(letter) => Signal::Main(letter),
             Output::Main(letter) => Signal::Mux(letter),
         }),
+        with_reads(
+            "open pins taken for output 2",
+            |design, own, signal, sources| {
+                for (source, pin) in sources.iter_mut().zip(table_pins_read(design, own, signal)) {
+                    if design.slices[own].pins[pin] == Driver::Open {
+                        *source = Source::Signal(Signal::O6(C).of_slice(0));
+                    }
+                }
+            },
+        ),
         pins_moved("pins ordered A1, B1, C1, D1, A2 ..", |pin| match pin {
             0..=23 => pin % 6 * 4 + pin / 6,
             _ => pin,

@@ -196,16 +196,26 @@ fn decoder(name: &str, driver: fn(u16, usize, usize) -> Option<Driver>) -> Wrong
 /// Codes below 4096 taken or refused.
 fn constants_and_inputs() -> Vec<WrongRules> {
     vec![
-        decoder("code 2 exists", |code, n, m| match code {
-            2 => NONE,
+        decoder("code 3 is open", |code, n, m| match code {
+            3 => Some(Driver::Open),
+            _ => driver(code, n, m),
+        }),
+        decoder("code 2 refused", |code, n, m| match code {
+            2 => None,
             _ => driver(code, n, m),
         }),
         decoder("code 1 refused", |code, n, m| match code {
             1 => None,
             _ => driver(code, n, m),
         }),
-        decoder("codes 2 to 255 exist", |code, n, m| match code {
-            2..=255 => NONE,
+        decoder("open by the low byte alone", |code, n, m| {
+            match code % 256 {
+                2 => Some(Driver::Open),
+                _ => driver(code, n, m),
+            }
+        }),
+        decoder("codes 3 to 255 exist", |code, n, m| match code {
+            3..=255 => NONE,
             _ => driver(code, n, m),
         }),
         decoder("input m exists", |code, n, m| driver(code, n, m + 1)),
