@@ -8,7 +8,8 @@ use Rattle.slicefile.specs.declared.Driver.the-variants as driver
 use Rattle.slicefile.specs.declared.Decoded.{Decoded}
 use Rattle.slicefile.specs.declared.Decoded.the-variants.{Driven, Missing}
 
--- code 0 or 1 is that constant; 2 is an open pin; 256+j is outside input j (j < m); 4096+16s+k is output k (0-11) of slice s (s < n). No other code exists
+-- code 0 or 1 is that constant; 2 is a pin left open; 256+j is outside input j (j < m); 4096+16s+k is output k (0-11) of slice s (s < n).
+-- No other code exists
 unfoldable pub driverOf : ℕ → ℕ → ℕ → Decoded
 driverOf code n m =
     cond (ltb code 2) (Driven (driver.Constant (eqb code 1)))

@@ -1,6 +1,6 @@
 -- A pin left open, driver code 2. Assumes nothing.
 use mathlib.Core.Path.{_≡_, _∙_, refl, ap, subst⁻¹}
-use mathlib.Core.Bool.{Bool, true, false}
+use mathlib.Core.Bool.{true, false}
 use mathlib.Core.List.{List, [], _∷_}
 use Prim.Native.Nat.{ℕ, zero, suc}
 use native.Mathlib.Omega.{arith}
