@@ -46,18 +46,6 @@ pub fn number_on(codes: &[u16], i: usize, k: usize, inputs: &[u8], values: &[u8]
     number
 }
 
-// Bit `k` of word `table`, 0 past the end.
-fn contents_bit(contents: &[u64], table: usize, k: u8) -> u8
-    requires { ⌜ k < 64 ⌝ }
-    ensures { λ r. ⌜ r ≡ bitAt (getD (was contents) table 0) k ⌝ }
-{
-    if table < contents.len() {
-        ((contents[table] >> k) % 2) as u8
-    } else {
-        0
-    }
-}
-
 // The stored bit of flip-flop `slot`, 0 past the end.
 fn stored_bit(flops: &[u8], slot: usize) -> u8
     ensures { λ r. ⌜ r ≡ bitAt (getD (was flops) (slot / 8) 0) (slot % 8) ⌝ }
@@ -87,7 +75,7 @@ pub fn gate_value(
     let head = table[at] as usize;
     if head < 4 * n {
         let k = number_on(table, at + 1, 6, inputs, values);
-        return contents_bit(contents, head, k);
+        return lookup::contents_bit(contents, head, k);
     }
     if head < 8 * n {
         return 0;

@@ -1,14 +1,16 @@
--- Every rule gives a bit, so settled and edited tables are bytes 0 and 1. Assumes nothing.
+-- Every rule gives a bit, so settled and edited tables are bytes 0 and 1; a bit past the end is 0. Assumes nothing.
+use mathlib.Core.Path.{_≡_, sym, ap, _∙_}
 use mathlib.Core.Bool.{Bool, true, false}
 use mathlib.Core.List.{List}
-use Prim.Native.Nat.{ℕ, zero, suc, _<_}
+use Prim.Native.Nat.{ℕ, zero, suc, _%_, _≤_, _<_}
+use native.Mathlib.Nat.{zero-div, zero-mod}
 use native.Mathlib.Omega.{arith}
-use lib.ListN.{getD}
+use lib.ListN.{length, getD, List·getD-eq-default}
 use Rattle.netlist.specs.declared.Source.{Source}
 use Rattle.netlist.specs.declared.Source.the-variants.{Constant, Input, Signal}
 use Rattle.netlist.specs.declared.Gate.{Gate}
 use Rattle.netlist.specs.declared.Gate.the-variants.{Lut, ZeroOf, Select, Xor, Same, Stored}
-use Rattle.netlist.specs.Rule.{Env, bit, choose, valueOf, applyGate, ruleOf}
+use Rattle.netlist.specs.Rule.{Env, bit, bitAt, choose, valueOf, applyGate, ruleOf}
 use Rattle.netlist.specs.Graph.{Ordered, Affected}
 use Rattle.netlist.specs.Settle.{readsIn, Settled, Edited}
 use Rattle.netlist.proofs.Editing.{affected?}
@@ -20,6 +22,10 @@ bit-small false = omega arith
 choose-small : (k one none : ℕ) → one < 2 → none < 2 → choose k one none < 2
 choose-small zero one none h l = l
 choose-small (suc k) one none h l = h
+
+-- past the end of words every bit is 0
+pub past-end : (words : List ℕ) (i k : ℕ) → length words ≤ i → 0 ≡ bitAt (getD words i 0) k
+past-end words i k h = rw (List·getD-eq-default words 0 h) (sym (ap (λ (n : ℕ). n % 2) (zero-div _) ∙ zero-mod 2))
 
 -- the bit on a source is one
 pub value-bit : (inputs values : List ℕ) (s : Source) → valueOf inputs values s < 2

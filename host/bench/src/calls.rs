@@ -1,5 +1,6 @@
 //! The library's calls, and the second program's, on one file.
 
+use crate::columns::NAMED;
 use ::calls::{Answer, Verdict, STATE, STORE};
 use model::{Simulator, Workings};
 use std::hint::black_box;
@@ -51,11 +52,11 @@ impl Call {
 /// A file and the buffers of its calls.
 #[derive(Clone)]
 pub struct Bench {
-    file: Vec<u8>,
-    contents: Vec<u64>,
-    flops: Vec<u8>,
-    inputs: Vec<u8>,
-    values: Vec<u8>,
+    pub(crate) file: Vec<u8>,
+    pub(crate) contents: Vec<u64>,
+    pub(crate) flops: Vec<u8>,
+    pub(crate) inputs: Vec<u8>,
+    pub(crate) values: Vec<u8>,
     record: Vec<u8>,
     body: Vec<u8>,
     store: Vec<u8>,
@@ -80,6 +81,17 @@ impl Bench {
         bench.model(Call::PowerUp);
         bench.model(Call::Settle);
         bench
+    }
+
+    /// The column of 64 slices of a name, if there is one.
+    pub fn find(name: &str) -> Option<Bench> {
+        let (_, column) = NAMED.iter().find(|(known, _)| *known == name)?;
+        Some(Bench::new(column(64).bytes()))
+    }
+
+    /// The column of 64 slices of a name that there is.
+    pub fn named(name: &str) -> Bench {
+        Bench::find(name).expect("a column's name")
     }
 
     /// The bytes of the file.

@@ -3,8 +3,9 @@
 
 use bench::calls::{on_library, on_model, on_runs, Bench, Call};
 use bench::columns::{self, NAMED};
+use bench::report::{heading, line};
 use bench::stack::depth;
-use bench::timing::{Spread, Times, ROUNDS, RUN};
+use bench::timing::Times;
 use std::hint::black_box;
 use std::process::ExitCode;
 
@@ -39,7 +40,7 @@ fn main() -> ExitCode {
 }
 
 fn report() {
-    println!("A number from the fastest runs, then median (quartiles) over {ROUNDS} rounds of runs of {RUN:?}.");
+    heading();
     full_column("deep");
     full_column("irregular");
     judged_files();
@@ -56,32 +57,14 @@ fn once(call: &str, column: &str) -> Result<(), String> {
     let names = Call::ALL.map(Call::name).join(", ");
     let known = known.ok_or(format!("no call {call:?}, but {names}"))?;
     let names = NAMED.map(|(name, _)| name).join(", ");
-    let bench = find(column).ok_or(format!("no column {column:?}, but {names}"));
+    let bench = Bench::find(column).ok_or(format!("no column {column:?}, but {names}"));
     println!("{:?}", bench?.library(known));
     Ok(())
 }
 
-/// The column of 64 slices of a name, if there is one.
-fn find(name: &str) -> Option<Bench> {
-    let (_, column) = NAMED.iter().find(|(known, _)| *known == name)?;
-    Some(Bench::new(column(64).bytes()))
-}
-
-/// The column of 64 slices of a name that there is.
-fn named(name: &str) -> Bench {
-    find(name).expect("a column's name")
-}
-
-fn line(name: &str, spread: Spread, digits: usize, note: &str) {
-    let write = |number: f64| format!("{number:.digits$}");
-    let quartiles = format!("({} to {})", write(spread.lower), write(spread.upper));
-    let (fastest, median) = (write(spread.fastest), write(spread.median));
-    println!("  {name:<34}{fastest:>8}{median:>9} {quartiles:<20}{note}");
-}
-
 /// The timed calls on a full column: library and second program in the same rounds.
 fn full_column(name: &str) {
-    let bench = named(name);
+    let bench = Bench::named(name);
     let calls = Call::TIMED.iter();
     let library = calls.clone().map(|&call| on_library(bench.clone(), call));
     let model = calls.clone().map(|&call| on_model(bench.clone(), call));
@@ -104,11 +87,11 @@ fn full_column(name: &str) {
 
 /// The judge on every column, beside the deep one and beside the accepted one of its kind.
 fn judged_files() {
-    let judge = |&(name, _): &(&str, _)| on_library(named(name), Call::Judge);
+    let judge = |&(name, _): &(&str, _)| on_library(Bench::named(name), Call::Judge);
     let times = Times::of(NAMED.iter().map(judge).collect());
     println!("\nthe judge on 64 slices, times the deep column");
     for (i, (name, _)) in NAMED.iter().enumerate() {
-        let note = match named(name).library(Call::Judge) {
+        let note = match Bench::named(name).library(Call::Judge) {
             Ok(()) => "accepted".to_string(),
             Err(refused) => format!("refused {} {}", refused.number, refused.place),
         };
@@ -149,7 +132,7 @@ fn growth() {
 
 /// A full column fed to a reader in runs, with the end, beside the judge on its file.
 fn fed(name: &str) {
-    let bench = named(name);
+    let bench = Bench::named(name);
     let runs = RUNS.map(|length| on_runs(bench.clone(), length));
     let judge = on_library(bench.clone(), Call::Judge);
     let times = Times::of([judge].into_iter().chain(runs).collect());
@@ -185,7 +168,7 @@ fn stack() {
     );
     for call in Call::ALL {
         let depths = NAMED.iter().map(|(name, _)| {
-            let mut bench = named(name);
+            let mut bench = Bench::named(name);
             depth(move || {
                 let _ = black_box(bench.library(call));
             })

@@ -33,7 +33,7 @@ pub struct Times {
 
 impl Times {
     /// Times calls in turn: a run of each makes a round.
-    pub fn of(mut calls: Vec<Box<dyn FnMut()>>) -> Times {
+    pub fn of(mut calls: Vec<Box<dyn FnMut() + '_>>) -> Times {
         let counts: Vec<u32> = calls.iter_mut().map(|call| calls_in_run(call)).collect();
         let round = |_| {
             let turns = calls.iter_mut().zip(&counts);

@@ -1,9 +1,7 @@
--- `evaluation::stored_bit` meets its contract: past the end the list gives 0, whose bits are 0. Assumes nothing.
-use mathlib.Core.Path.{_∙_, sym, ap}
-use Prim.Native.Nat.{ℕ, _%_}
-use native.Mathlib.Nat.{zero-div, zero-mod}
-use lib.ListN.{List·getD-eq-default}
+-- `evaluation::stored_bit` meets its contract. Assumes nothing.
+use Prim.Native.Nat.{_%_}
 use borrow.Author.Needs.{needs}
+use Rattle.netlist.proofs.Bits.{past-end}
 use Rattle.evaluation.proofs.stored_bit.Statement.{statement}
 use Rattle.evaluation.proofs.stored_bit.Tie as tie
 
@@ -20,7 +18,7 @@ returns : tie.Need-returns
 returns c = search needs
 
 returns-2 : tie.Need-returns-2
-returns-2 c = rw (List·getD-eq-default _ _ (c .if1 .left)) (sym (ap (λ (n : ℕ). n % 2) (zero-div _) ∙ zero-mod 2))
+returns-2 c = past-end (c .before .args .flops .now) _ (c .before .args .slot % 8) (c .if1 .left)
 
 pub stored-bit-spec : {M : Type 1} → statement M
 stored-bit-spec =

@@ -1,11 +1,8 @@
--- `evaluation::contents_bit` meets its contract: past the end the list gives 0, whose bits are 0. Assumes nothing.
-use mathlib.Core.Path.{_∙_, sym, ap}
-use Prim.Native.Nat.{ℕ, _%_}
-use native.Mathlib.Nat.{zero-div, zero-mod}
-use lib.ListN.{List·getD-eq-default}
+-- `lookup::contents_bit` meets its contract. Assumes nothing.
 use borrow.Author.Needs.{needs}
-use Rattle.evaluation.proofs.contents_bit.Statement.{statement}
-use Rattle.evaluation.proofs.contents_bit.Tie as tie
+use Rattle.netlist.proofs.Bits.{past-end}
+use Rattle.lookup.proofs.contents_bit.Statement.{statement}
+use Rattle.lookup.proofs.contents_bit.Tie as tie
 
 mul-result : tie.Need-mul-result
 mul-result c = search needs
@@ -23,7 +20,7 @@ returns : tie.Need-returns
 returns c = search needs
 
 returns-2 : tie.Need-returns-2
-returns-2 c = rw (List·getD-eq-default _ _ (c .if1 .left)) (sym (ap (λ (n : ℕ). n % 2) (zero-div _) ∙ zero-mod 2))
+returns-2 c = past-end (c .before .args .contents .now) _ (c .before .args .k) (c .if1 .left)
 
 pub contents-bit-spec : {M : Type 1} → statement M
 contents-bit-spec =

@@ -1,0 +1,98 @@
+//! Ways to look a bit up, side by side: each is held to the second program and then timed, in turns. Times pass or fail nothing.
+
+use bench::calls::Bench;
+use bench::lookups::Lookups;
+use bench::report::{heading, line};
+use bench::timing::Times;
+use bench::ways::Way;
+use std::ffi::OsString;
+use std::hint::black_box;
+use std::path::Path;
+use std::process::ExitCode;
+
+fn main() -> ExitCode {
+    let words: Vec<OsString> = std::env::args_os().skip(1).collect();
+    let ways = match &words[..] {
+        [word] if word == "--help" => {
+            print!("{}", include_str!("../../../help/lookup"));
+            return ExitCode::SUCCESS;
+        }
+        [_, _, ..] => words
+            .iter()
+            .map(|word| Way::load(Path::new(word)))
+            .collect(),
+        _ => Err("two folders or more, a way in each; --help says more".to_string()),
+    };
+    let ways: Vec<Way> = match ways {
+        Ok(ways) => ways,
+        Err(why) => return failed(why, 2),
+    };
+    let mut lookups = Lookups::random(testkit::random::seed());
+    if let Err(why) = ways.iter().try_for_each(|way| lookups.check(way)) {
+        return failed(why, 1);
+    }
+    report(&ways, &lookups);
+    ExitCode::SUCCESS
+}
+
+fn failed(why: String, status: u8) -> ExitCode {
+    eprintln!("lookup: {why}");
+    ExitCode::from(status)
+}
+
+fn report(ways: &[Way], lookups: &Lookups) {
+    let (words, picks) = (lookups.words().len(), lookups.picks().len());
+    println!("All ways agree with the second program: at every place of {words} random words, in a row of {picks} look-ups, in a settle.");
+    heading();
+    let each = 1e3 / picks as f64;
+    let chain = "a chain, each place moved on by the bit before: nanoseconds a look-up";
+    section(ways, 0, chain, rows(ways, lookups, Way::chained), each);
+    let apart = "independent look-ups: nanoseconds a look-up";
+    section(ways, 0, apart, rows(ways, lookups, Way::apart), each);
+    for name in ["deep", "irregular"] {
+        let settle = format!("a settle of {name}, 64 slices: microseconds a call");
+        section(ways, 1, &settle, settles(ways, &Bench::named(name)), 1.0);
+    }
+}
+
+/// One call of each way, to be timed.
+type Calls<'a> = Vec<Box<dyn FnMut() + 'a>>;
+
+fn rows(ways: &[Way], lookups: &Lookups, row: fn(&Way, &[u64], &[u16]) -> u64) -> Times {
+    let mut calls: Calls = vec![];
+    for way in ways {
+        calls.push(Box::new(move || {
+            black_box(row(way, lookups.words(), lookups.picks()));
+        }));
+    }
+    Times::of(calls)
+}
+
+fn settles(ways: &[Way], bench: &Bench) -> Times {
+    let mut calls: Calls = vec![];
+    for way in ways {
+        let mut bench = bench.clone();
+        calls.push(Box::new(move || {
+            black_box(way.settle(&mut bench));
+        }));
+    }
+    Times::of(calls)
+}
+
+/// Times of all ways, and beside the first; `code` is the library that they are in.
+fn section(ways: &[Way], code: usize, title: &str, times: Times, scale: f64) {
+    println!("\n{title}");
+    for (i, way) in ways.iter().enumerate() {
+        line(&way.name, times.call(i).scaled(scale), 2, "");
+    }
+    println!("times {}", ways[0].name);
+    for (i, way) in ways.iter().enumerate().skip(1) {
+        let same = way.code[code] == ways[0].code[code];
+        let note = if same {
+            "the same code, byte for byte"
+        } else {
+            ""
+        };
+        line(&way.name, times.ratio(i, 0), 3, note);
+    }
+}
