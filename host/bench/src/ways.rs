@@ -2,15 +2,16 @@
 
 use crate::calls::Bench;
 use std::ffi::{c_char, c_int, c_void, CStr, CString};
+use std::fmt::Display;
 use std::os::unix::ffi::OsStrExt;
-use std::path::Path;
+use std::path::{Path, PathBuf};
 
 extern "C" {
     fn dlopen(name: *const c_char, flags: c_int) -> *mut c_void;
     fn dlsym(library: *mut c_void, name: *const c_char) -> *mut c_void;
 }
 
-/// All of the library's symbols are looked for when it is loaded, and it shares none.
+/// What a library refers to is looked for when it is loaded, and nothing else refers to it.
 const RTLD_NOW: c_int = 2;
 
 /// Contents and picks, each with its length.
@@ -33,7 +34,7 @@ type Settle = unsafe extern "C" fn(
 /// One way: look-ups in a row, as `lookuploops` has them, and the library's settle.
 pub struct Way {
     pub name: String,
-    /// The bytes of its two shared libraries.
+    /// The bytes of the two shared libraries.
     pub code: [Vec<u8>; 2],
     apart: Row,
     chained: Row,
@@ -43,18 +44,17 @@ pub struct Way {
 impl Way {
     /// The way of a folder, by whose name it goes.
     pub fn load(folder: &Path) -> Result<Way, String> {
-        let name = folder.file_name().ok_or("a folder has a name")?;
-        let [rows, library] = ["lookuploops.so", "quagmuffin.so"].map(|name| folder.join(name));
+        let rows = Library::load(folder.join("lookuploops.so"))?;
+        let library = Library::load(folder.join("quagmuffin.so"))?;
+        let name = folder.file_name().unwrap_or(folder.as_os_str());
         // SAFETY: these are the types of the functions of these names.
         unsafe {
-            let code = [read(&rows)?, read(&library)?];
-            let (rows, library) = (open(&rows)?, open(&library)?);
             Ok(Way {
                 name: name.to_string_lossy().into(),
-                code,
-                apart: std::mem::transmute::<*mut c_void, Row>(find(rows, c"lookups_apart")?),
-                chained: std::mem::transmute::<*mut c_void, Row>(find(rows, c"lookups_chained")?),
-                settle: std::mem::transmute::<*mut c_void, Settle>(find(library, c"qm_settle")?),
+                apart: std::mem::transmute::<*mut c_void, Row>(rows.find(c"lookups_apart")?),
+                chained: std::mem::transmute::<*mut c_void, Row>(rows.find(c"lookups_chained")?),
+                settle: std::mem::transmute::<*mut c_void, Settle>(library.find(c"qm_settle")?),
+                code: [rows.code, library.code],
             })
         }
     }
@@ -95,27 +95,33 @@ impl Way {
     }
 }
 
-fn read(path: &Path) -> Result<Vec<u8>, String> {
-    std::fs::read(path).map_err(|error| format!("{}: {error}", path.display()))
-}
-
 /// A shared library, which stays loaded.
-fn open(path: &Path) -> Result<*mut c_void, String> {
-    let name = CString::new(path.as_os_str().as_bytes()).map_err(|error| error.to_string())?;
-    // SAFETY: the name ends with a 0. What runs when it is loaded is for who made the library.
-    let library = unsafe { dlopen(name.as_ptr(), RTLD_NOW) };
-    match library.is_null() {
-        true => Err(format!("{}: is no shared library", path.display())),
-        false => Ok(library),
-    }
+struct Library {
+    path: PathBuf,
+    code: Vec<u8>,
+    handle: *mut c_void,
 }
 
-/// A function of a library that was loaded.
-fn find(library: *mut c_void, name: &CStr) -> Result<*mut c_void, String> {
-    // SAFETY: the library stays loaded, and the name ends with a 0.
-    let function = unsafe { dlsym(library, name.as_ptr()) };
-    match function.is_null() {
-        true => Err(format!("no function {name:?}")),
-        false => Ok(function),
+impl Library {
+    fn load(path: PathBuf) -> Result<Library, String> {
+        let of_path = |why: &dyn Display| format!("{}: {why}", path.display());
+        let code = std::fs::read(&path).map_err(|error| of_path(&error))?;
+        let name = CString::new(path.as_os_str().as_bytes()).map_err(|error| of_path(&error))?;
+        // SAFETY: the name ends with a 0.
+        let handle = unsafe { dlopen(name.as_ptr(), RTLD_NOW) };
+        if handle.is_null() {
+            return Err(of_path(&"is no shared library that can be loaded"));
+        }
+        Ok(Library { path, code, handle })
+    }
+
+    fn find(&self, name: &CStr) -> Result<*mut c_void, String> {
+        // SAFETY: the library is loaded, and the name ends with a 0.
+        let function = unsafe { dlsym(self.handle, name.as_ptr()) };
+        if function.is_null() {
+            let (path, name) = (self.path.display(), name.to_string_lossy());
+            return Err(format!("{path}: has no {name}"));
+        }
+        Ok(function)
     }
 }

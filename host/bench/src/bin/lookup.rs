@@ -21,7 +21,10 @@ fn main() -> ExitCode {
             .iter()
             .map(|word| Way::load(Path::new(word)))
             .collect(),
-        _ => Err("two folders or more, a way in each; --help says more".to_string()),
+        _ => Err(
+            "two folders or more, a way in each, which host/lookup makes; --help says more"
+                .to_string(),
+        ),
     };
     let ways: Vec<Way> = match ways {
         Ok(ways) => ways,
