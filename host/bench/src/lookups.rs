@@ -7,6 +7,8 @@ use model::layout::*;
 use testkit::column::Column;
 use testkit::prng::Prng;
 
+/// The same words in every run.
+const SEED: u64 = 20_261_117;
 /// The places of a word.
 const PLACES: usize = 64;
 /// The picks of a row.
@@ -21,8 +23,8 @@ pub struct Lookups {
 }
 
 impl Lookups {
-    pub fn random(seed: u64) -> Lookups {
-        let mut rng = Prng::new(seed);
+    pub fn random() -> Lookups {
+        let mut rng = Prng::new(SEED);
         let mut bench = Bench::new(column(&mut rng).bytes());
         let settled = (0..PLACES).map(|place| settled(&mut bench, place));
         let settled = settled.collect();
@@ -50,48 +52,58 @@ impl Lookups {
         u64::from(self.settled[place][SIGNALS * (table / 4) + table % 4])
     }
 
-    /// Where a way first differs from the second program, if it does: at each place of each word, in a row of picks, and in a settle.
-    pub fn check(&mut self, way: &Way) -> Result<(), String> {
-        for pick in 0..(PLACES * self.words().len()) as u16 {
-            self.check_row(way, &[pick])?;
-        }
-        self.check_row(way, &self.picks)?;
-        (0..PLACES).try_for_each(|place| self.check_settle(way, place))
-    }
-
-    fn check_row(&self, way: &Way, picks: &[u16]) -> Result<(), String> {
-        let apart = picks.iter().map(|&pick| self.bit(pick, 0)).sum();
-        let chain = picks.iter().scan(0, |last, &pick| {
+    /// The sums of a row by the second program: each look-up by itself, and in a chain.
+    fn sums(&self, picks: &[u16]) -> [u64; 2] {
+        let apart = picks.iter().map(|&pick| self.bit(pick, 0));
+        let chained = picks.iter().scan(0, |last, &pick| {
             *last = self.bit(pick, *last);
             Some(*last)
         });
-        let words = self.words();
-        let rows = [
-            ("apart", way.apart(words, picks), apart),
-            ("chained", way.chained(words, picks), chain.sum()),
-        ];
-        match rows.into_iter().find(|(_, sum, expected)| sum != expected) {
-            None => Ok(()),
-            Some((row, sum, expected)) => Err(match picks {
-                &[pick] => {
-                    let (table, place) = (usize::from(pick) / PLACES, usize::from(pick) % PLACES);
-                    format!("{}, {row}: place {place} of {:#018x} is {sum}, by the second program {expected}", way.name, words[table])
-                }
-                _ => format!(
-                    "{}, {row}: {} picks give {sum}, by the second program {expected}",
-                    way.name,
-                    picks.len()
-                ),
-            }),
+        [apart.sum(), chained.sum()]
+    }
+
+    /// Where a way first differs from the second program, if it does: at each place of each word, in a row of picks, and in a settle.
+    pub fn check(&mut self, way: &Way) -> Result<(), String> {
+        for (table, word) in self.words().iter().enumerate() {
+            for place in 0..PLACES {
+                let pick = (PLACES * table + place) as u16;
+                self.check_row(way, &[pick], || format!("place {place} of {word:#018x}"))?;
+            }
         }
+        let row = || format!("a row of {} look-ups", self.picks.len());
+        self.check_row(way, &self.picks, row)?;
+        (0..PLACES).try_for_each(|place| self.check_settle(way, place))
+    }
+
+    fn check_row(&self, way: &Way, picks: &[u16], what: impl Fn() -> String) -> Result<(), String> {
+        let words = self.words();
+        let sums = [way.apart(words, picks), way.chained(words, picks)];
+        for ((row, sum), expected) in ["apart", "chained"].iter().zip(sums).zip(self.sums(picks)) {
+            if sum != expected {
+                let (name, what) = (&way.name, what());
+                return Err(format!(
+                    "{name}, {row}: {what} gives {sum}, by the second program {expected}"
+                ));
+            }
+        }
+        Ok(())
     }
 
     fn check_settle(&mut self, way: &Way, place: usize) -> Result<(), String> {
         self.bench.inputs = inputs(place);
+        self.bench.values.fill(2);
         let answer = way.settle(&mut self.bench);
-        match answer == 0 && self.bench.values == self.settled[place] {
-            true => Ok(()),
-            false => Err(format!("{}: settled with the inputs at place {place}, a signal is not the second program's", way.name)),
+        let pairs = self.bench.values.iter().zip(&self.settled[place]);
+        let name = format!("{}: the settle with the inputs at place {place}", way.name);
+        match pairs
+            .enumerate()
+            .find(|(_, (value, expected))| value != expected)
+        {
+            _ if answer != 0 => Err(format!("{name} answers {answer}")),
+            Some((x, (value, expected))) => Err(format!(
+                "{name} gives {value} for signal {x}, by the second program {expected}"
+            )),
+            None => Ok(()),
         }
     }
 }

@@ -31,7 +31,7 @@ type Settle = unsafe extern "C" fn(
     values_len: usize,
 ) -> u64;
 
-/// One way: look-ups in a row, as `lookuploops` has them, and the library's settle.
+/// One way: look-ups in a row, as `lookuprows` has them, and the library's settle.
 pub struct Way {
     pub name: String,
     /// The bytes of the two shared libraries.
@@ -44,7 +44,7 @@ pub struct Way {
 impl Way {
     /// The way of a folder, by whose name it goes.
     pub fn load(folder: &Path) -> Result<Way, String> {
-        let rows = Library::load(folder.join("lookuploops.so"))?;
+        let rows = Library::load(folder.join("lookuprows.so"))?;
         let library = Library::load(folder.join("quagmuffin.so"))?;
         let name = folder.file_name().unwrap_or(folder.as_os_str());
         // SAFETY: these are the types of the functions of these names.

@@ -51,7 +51,7 @@ fn way(test: &str, name: &str, definition: &str) -> PathBuf {
     let rows = folder.join("rows.c");
     fs::write(&rows, ROWS).expect("a file");
     let rows = rows.to_str().expect("a path");
-    link(&folder, "lookuploops.so", &[definition, rows]);
+    link(&folder, "lookuprows.so", &[definition, rows]);
     let archive = repository().join("target/staticlib/libquagmuffin.a");
     let archive = archive.to_str().expect("a path");
     let whole = ["-Wl,--whole-archive", archive, "-Wl,--no-whole-archive"];
@@ -61,8 +61,7 @@ fn way(test: &str, name: &str, definition: &str) -> PathBuf {
 
 fn lookup(words: &[&Path]) -> Output {
     let mut command = Command::new(env!("CARGO_BIN_EXE_lookup"));
-    command.args(words).env_remove("SEED");
-    command.output().expect("run lookup")
+    command.args(words).output().expect("run lookup")
 }
 
 /// What is said of a way beside a sound one.
@@ -114,14 +113,17 @@ fn a_wrong_place_is_named() {
     let said = said("place", wrong);
     let start = "lookup: other, apart: place 63 of 0x";
     assert!(said.starts_with(start), "{said}");
-    assert!(said.ends_with(" is 0, by the second program 1\n"), "{said}");
+    assert!(
+        said.ends_with(" gives 0, by the second program 1\n"),
+        "{said}"
+    );
 }
 
 /// Right at each place alone, it goes wrong after a bit.
 #[test]
 fn a_chain_that_is_not_one_is_named() {
     let said = said("chain", "-DON(bit)=0");
-    let start = "lookup: other, chained: 65536 picks give ";
+    let start = "lookup: other, chained: a row of 65536 look-ups gives ";
     assert!(said.starts_with(start), "{said}");
 }
 
@@ -142,20 +144,20 @@ fn fails_where_a_way_is_missing() {
     assert_fails(&lookup(&[]), "lookup: two folders or more,");
     assert_fails(&lookup(&[&sound]), "lookup: two folders or more,");
     let none = sound.join("none");
-    let start = format!("lookup: {}/lookuploops.so: No such file", none.display());
+    let start = format!("lookup: {}/lookuprows.so: No such file", none.display());
     assert_fails(&lookup(&[&sound, &none]), &start);
     for (text, said) in [
         ("", "is no shared library"),
         ("int x;\n", "has no lookups_apart"),
     ] {
         let other = way("missing", "other", "-DSHIFT");
-        let library = other.join("lookuploops.so");
+        let library = other.join("lookuprows.so");
         match text {
             "" => fs::write(&library, "no library").expect("a file"),
             _ => {
                 let code = other.join("other.c");
                 fs::write(&code, text).expect("a file");
-                link(&other, "lookuploops.so", &[code.to_str().expect("a path")]);
+                link(&other, "lookuprows.so", &[code.to_str().expect("a path")]);
             }
         }
         let start = format!("lookup: {}: {said}", library.display());

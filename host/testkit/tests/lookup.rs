@@ -20,10 +20,10 @@ const GCC: &str = "#!/bin/sh\ncp \"$3\" \"$6\"\n";
 const RUN: &str = "#!/bin/sh
 [ \"$1\" = lookup ] && shift
 for way; do
-    cmp \"$way/lookuploops.so\" \"$way/quagmuffin.so\" && echo \"$(basename \"$way\"): $(cat \"$way/quagmuffin.so\")\"
+    cmp \"$way/lookuprows.so\" \"$way/quagmuffin.so\" && echo \"$(basename \"$way\"): $(cat \"$way/quagmuffin.so\")\"
 done
 ";
-const CRATES: &str = "lookup:\nlookupmask:\nlookuploops: lookup\nquagmuffin: lookup\n";
+const CRATES: &str = "lookup:\nlookupmask:\nlookuprows: lookup\nquagmuffin: lookup\n";
 
 fn replica(name: &str) -> Replica {
     let folder = Path::new(env!("CARGO_TARGET_TMPDIR")).join(name);
@@ -33,7 +33,7 @@ fn replica(name: &str) -> Replica {
         ("root/crates.txt", CRATES),
         ("root/crates/lookup/src/lib.rt", "lookup shifts\n"),
         ("root/crates/lookupmask/src/lib.rt", "lookupmask masks\n"),
-        ("root/crates/lookuploops/src/lib.rt", "loops\n"),
+        ("root/crates/lookuprows/src/lib.rt", "loops\n"),
         ("root/crates/quagmuffin/src/lib.rt", "all\n"),
         ("root/host/run", RUN),
     ];
@@ -52,11 +52,11 @@ fn lookup(copy: &Replica) -> Output {
 const TIMED: &str = "lookup: lookup shifts
 lookup:
 lookupmask:
-lookuploops: lookup
+lookuprows: lookup
 quagmuffin: lookup
 lookupmask: lookup masks
 lookup:
-lookuploops: lookup
+lookuprows: lookup
 quagmuffin: lookup
 ";
 
@@ -67,13 +67,13 @@ fn each_way_is_proved_in_its_place() {
     let said = String::from_utf8_lossy(&output.stderr);
     let proved =
         |crates| format!("lookup: proved 1 of 2: lookup (0 s)\nlookup: proved 2 of 2: {crates}\n");
-    let each = proved("lookuploops") + &proved("quagmuffin");
+    let each = proved("lookuprows") + &proved("quagmuffin");
     let first = "lookup: proving what is timed; from nothing that takes some minutes\n";
     let second = "lookup: proving it with lookupmask in the place of lookup\n";
     assert_eq!(said, format!("{first}{each}{second}{each}"));
     assert_eq!(String::from_utf8_lossy(&output.stdout), TIMED);
     assert_eq!(output.status.code(), Some(0));
-    let words = "staticlib lookuploops\nstaticlib quagmuffin\n";
+    let words = "staticlib lookuprows\nstaticlib quagmuffin\n";
     assert_eq!(copy.left("words"), words.repeat(2));
 }
 
@@ -99,12 +99,12 @@ fn fails_in_a_line() {
         (
             "bin/rt",
             "#!/bin/sh\nexit 1\n",
-            "rt staticlib lookuploops failed",
+            "rt staticlib lookuprows failed",
         ),
         (
             "bin/gcc",
             "#!/bin/sh\nexit 1\n",
-            "lookuploops can't be linked",
+            "lookuprows can't be linked",
         ),
     ] {
         let copy = replica("lookup fails");

@@ -30,7 +30,7 @@ fn main() -> ExitCode {
         Ok(ways) => ways,
         Err(why) => return failed(why, 2),
     };
-    let mut lookups = Lookups::random(testkit::random::seed());
+    let mut lookups = Lookups::random();
     if let Err(why) = ways.iter().try_for_each(|way| lookups.check(way)) {
         return failed(why, 1);
     }

@@ -1,4 +1,4 @@
--- `lookuploops::picked_bit` meets its contract. Assumes nothing.
+-- `lookuprows::picked_bit` meets its contract. Assumes nothing.
 use mathlib.Core.Path.{_≡_, _∙_, ap}
 use Prim.Native.Nat.{ℕ, _+_, _/_, _%_}
 use native.Mathlib.Nat.{mod-lt}
@@ -7,8 +7,8 @@ use borrow.Author.Needs.{needs}
 use lib.Dec.{lit<}
 use lib.ListN.{getD}
 use Rattle.netlist.specs.Rule.{bitAt}
-use Rattle.lookuploops.proofs.picked_bit.Statement.{statement}
-use Rattle.lookuploops.proofs.picked_bit.Tie as tie
+use Rattle.lookuprows.proofs.picked_bit.Statement.{statement}
+use Rattle.lookuprows.proofs.picked_bit.Tie as tie
 
 cast-k : tie.Need-cast-k
 cast-k c = search needs
