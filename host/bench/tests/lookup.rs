@@ -35,74 +35,96 @@ uint64_t lookups_chained(const uint64_t *words, size_t count, const uint16_t *pi
 const MASK: &str = "-DBIT(word,place)=(((word)&1ull<<(place))!=0)";
 
 /// Makes a shared library.
-fn link(folder: &Path, name: &str, words: &[&str]) {
+fn link(library: &Path, words: &[&str]) {
     let mut gcc = Command::new("gcc");
     gcc.args(["-O1", "-fPIC", "-shared", "-Wl,--build-id=none"]);
-    gcc.args(words).arg("-o").arg(folder.join(name));
+    gcc.args(words).arg("-o").arg(library);
     let output = gcc.output().expect("gcc");
     assert!(output.status.success(), "{output:?}");
 }
 
-/// The folder of a way: rows by C with a definition, and the library itself.
-fn way(test: &str, name: &str, definition: &str) -> PathBuf {
+/// Makes a shared library of a text in C, with definitions.
+fn compile(library: &Path, code: &str, definitions: &[&str]) {
+    let file = library.with_extension("c");
+    fs::write(&file, code).expect("a file");
+    let file = [file.to_str().expect("a path")];
+    link(library, &[definitions, &file].concat());
+}
+
+/// Another library where one was loaded before.
+fn replace(library: &Path, code: &str) {
+    fs::remove_file(library).expect("a library");
+    compile(library, code, &[]);
+}
+
+/// The folder of a way: rows in C with definitions, and the library itself.
+fn way(test: &str, name: &str, definitions: &[&str]) -> PathBuf {
     let folder = Path::new(env!("CARGO_TARGET_TMPDIR")).join(test).join(name);
     let _ = fs::remove_dir_all(&folder);
     fs::create_dir_all(&folder).expect("a folder");
-    let rows = folder.join("rows.c");
-    fs::write(&rows, ROWS).expect("a file");
-    let rows = rows.to_str().expect("a path");
-    link(&folder, "lookuprows.so", &[definition, rows]);
+    compile(&folder.join("lookuprows.so"), ROWS, definitions);
     let archive = repository().join("target/staticlib/libquagmuffin.a");
     let archive = archive.to_str().expect("a path");
     let whole = ["-Wl,--whole-archive", archive, "-Wl,--no-whole-archive"];
-    link(&folder, "quagmuffin.so", &whole);
+    link(&folder.join("quagmuffin.so"), &whole);
     folder
 }
 
-fn lookup(words: &[&Path]) -> Output {
+fn lookup(words: &[&PathBuf]) -> Output {
     let mut command = Command::new(env!("CARGO_BIN_EXE_lookup"));
     command.args(words).output().expect("run lookup")
 }
 
-/// What is said of a way beside a sound one.
-fn said(test: &str, definition: &str) -> String {
-    let output = lookup(&[
-        &way(test, "shift", "-DSHIFT"),
-        &way(test, "other", definition),
-    ]);
+/// What is said where a way differs from the second program.
+fn differs(ways: &[&PathBuf]) -> String {
+    let output = lookup(ways);
     let said = String::from_utf8_lossy(&output.stderr).into_owned();
     assert_says(&output, 1, &said);
     said
 }
 
+/// The same of rows with a definition, beside a sound way.
+fn differs_by(test: &str, definition: &str) -> String {
+    differs(&[&way(test, "shift", &[]), &way(test, "other", &[definition])])
+}
+
 #[test]
 fn sound_ways_are_timed() {
-    let output = lookup(&[
-        &way("sound", "shift", "-DSHIFT"),
-        &way("sound", "mask", MASK),
-    ]);
+    let ways = [way("sound", "shift", &[]), way("sound", "mask", &[MASK])];
+    let output = lookup(&[&ways[0], &ways[1]]);
     let text = String::from_utf8_lossy(&output.stdout).into_owned();
     assert_writes(&output, 0, &text);
-    let titles = [
-        "\na chain, each place moved on by the bit before: nanoseconds a look-up\n  shift  ",
-        "\nindependent look-ups: nanoseconds a look-up\n  shift  ",
-        "\na settle of deep, 64 slices: microseconds a call\n  shift  ",
-        "\na settle of irregular, 64 slices: microseconds a call\n  shift  ",
+    let sections = [
+        (
+            "a chain, each place moved on by the bit before: nanoseconds a look-up",
+            false,
+        ),
+        ("independent look-ups: nanoseconds a look-up", false),
+        ("a settle of deep, 64 slices: microseconds a call", true),
+        (
+            "a settle of irregular, 64 slices: microseconds a call",
+            true,
+        ),
     ];
-    let mut parts = vec![];
-    let mut rest = &text[..];
-    for title in titles {
-        let (part, after) = rest.split_once(title).expect(title);
-        parts.push(part);
-        rest = after;
-    }
-    parts.push(rest);
-    for (part, same) in parts[1..].iter().zip([false, false, true, true]) {
-        let (_, ratio) = part.split_once("\ntimes shift\n  mask  ").expect(part);
+    let printed: Vec<Vec<&str>> = text
+        .split("\n\n")
+        .map(|part| part.lines().collect())
+        .collect();
+    assert_eq!(printed.len(), 1 + sections.len(), "{text}");
+    for (lines, (title, same)) in printed[1..].iter().zip(sections) {
+        let &[first, shift, mask, times, ratio] = &lines[..] else {
+            panic!("{lines:?}")
+        };
+        assert_eq!([first, times], [title, "times shift"]);
+        assert!(
+            shift.starts_with("  shift  ") && mask.starts_with("  mask  "),
+            "{lines:?}"
+        );
+        assert!(ratio.starts_with("  mask  "), "{ratio}");
         assert_eq!(
-            ratio.contains("the same code, byte for byte"),
+            ratio.ends_with(" the same code, byte for byte"),
             same,
-            "{part}"
+            "{ratio}"
         );
     }
 }
@@ -110,7 +132,7 @@ fn sound_ways_are_timed() {
 #[test]
 fn a_wrong_place_is_named() {
     let wrong = "-DBIT(word,place)=((place)==63?0:(word)>>(place)&1)";
-    let said = said("place", wrong);
+    let said = differs_by("place", wrong);
     let start = "lookup: other, apart: place 63 of 0x";
     assert!(said.starts_with(start), "{said}");
     assert!(
@@ -122,53 +144,44 @@ fn a_wrong_place_is_named() {
 /// Right at each place alone, it goes wrong after a bit.
 #[test]
 fn a_chain_that_is_not_one_is_named() {
-    let said = said("chain", "-DON(bit)=0");
+    let said = differs_by("chain", "-DON(bit)=0");
     let start = "lookup: other, chained: a row of 65536 look-ups gives ";
     assert!(said.starts_with(start), "{said}");
 }
 
 #[test]
 fn a_wrong_settle_is_named() {
-    let [sound, other] = ["shift", "other"].map(|name| way("settle", name, "-DSHIFT"));
-    let code = other.join("settle.c");
-    fs::write(&code, "unsigned long qm_settle(void) { return 0; }\n").expect("a file");
-    link(&other, "quagmuffin.so", &[code.to_str().expect("a path")]);
-    let line =
-        "lookup: other: settled with the inputs at place 0, a signal is not the second program's\n";
-    assert_says(&lookup(&[&sound, &other]), 1, line);
+    let [sound, other] = ["shift", "other"].map(|name| way("settle", name, &[]));
+    let settle = "unsigned long qm_settle(void) { return 0; }\n";
+    replace(&other.join("quagmuffin.so"), settle);
+    let start = "lookup: other: the settle with the inputs at place 0 gives 2 for signal 0, ";
+    let said = differs(&[&sound, &other]);
+    assert!(said.starts_with(start), "{said}");
 }
 
 #[test]
 fn fails_where_a_way_is_missing() {
-    let sound = way("missing", "shift", "-DSHIFT");
-    assert_fails(&lookup(&[]), "lookup: two folders or more,");
-    assert_fails(&lookup(&[&sound]), "lookup: two folders or more,");
-    let none = sound.join("none");
-    let start = format!("lookup: {}/lookuprows.so: No such file", none.display());
-    assert_fails(&lookup(&[&sound, &none]), &start);
-    for (text, said) in [
-        ("", "is no shared library"),
-        ("int x;\n", "has no lookups_apart"),
-    ] {
-        let other = way("missing", "other", "-DSHIFT");
-        let library = other.join("lookuprows.so");
-        match text {
-            "" => fs::write(&library, "no library").expect("a file"),
-            _ => {
-                let code = other.join("other.c");
-                fs::write(&code, text).expect("a file");
-                link(&other, "lookuprows.so", &[code.to_str().expect("a path")]);
-            }
-        }
-        let start = format!("lookup: {}: {said}", library.display());
-        assert_fails(&lookup(&[&sound, &other]), &start);
+    let [sound, other] = ["shift", "other"].map(|name| way("missing", name, &[]));
+    for words in [&[][..], &[&sound]] {
+        assert_fails(&lookup(words), "lookup: two folders or more,");
     }
+    let rows = other.join("lookuprows.so");
+    let path = rows.display();
+    replace(&rows, "int other;\n");
+    let start = format!("lookup: {path}: has no lookups_apart");
+    assert_fails(&lookup(&[&sound, &other]), &start);
+    fs::write(&rows, "no library").expect("a file");
+    let start = format!("lookup: {path}: is no shared library");
+    assert_fails(&lookup(&[&sound, &other]), &start);
+    fs::remove_file(&rows).expect("a file");
+    let start = format!("lookup: {path}: No such file");
+    assert_fails(&lookup(&[&sound, &other]), &start);
 }
 
 #[test]
 fn help() {
     let text = include_str!("../../help/lookup");
-    assert_writes(&lookup(&[Path::new("--help")]), 0, text);
+    assert_writes(&lookup(&[&PathBuf::from("--help")]), 0, text);
 }
 
 /// All that is said of a look-up before its body: the ways of host/lookup say the same, word for word.
