@@ -7,6 +7,7 @@ use bench::report::{heading, line};
 use bench::stack::depth;
 use bench::timing::Times;
 use std::hint::black_box;
+use std::io::{self, stdout, Write};
 use std::process::ExitCode;
 
 const SIZES: [usize; 7] = [1, 2, 4, 8, 16, 32, 64];
@@ -19,10 +20,7 @@ fn main() -> ExitCode {
     let words = std::env::args_os().skip(1);
     let words: Vec<String> = words.map(|word| word.to_string_lossy().into()).collect();
     let done = match &words[..] {
-        [] => {
-            report();
-            Ok(())
-        }
+        [] => report(&mut stdout()).map_err(|error| format!("standard output: {error}")),
         [word] if word == "--help" => {
             print!("{}", include_str!("../../help/bench"));
             Ok(())
@@ -39,16 +37,16 @@ fn main() -> ExitCode {
     }
 }
 
-fn report() {
-    heading();
-    full_column("deep");
-    full_column("irregular");
-    judged_files();
-    growth();
-    fed("deep");
-    fed("irregular");
-    fed_growth();
-    stack();
+fn report(out: &mut impl Write) -> io::Result<()> {
+    heading(out)?;
+    full_column(out, "deep")?;
+    full_column(out, "irregular")?;
+    judged_files(out)?;
+    growth(out)?;
+    fed(out, "deep")?;
+    fed(out, "irregular")?;
+    fed_growth(out)?;
+    stack(out)
 }
 
 /// A call, by its name, once on a column of 64 slices, by its name. Or that there is no such name.
@@ -63,109 +61,120 @@ fn once(call: &str, column: &str) -> Result<(), String> {
 }
 
 /// The timed calls on a full column: library and second program in the same rounds.
-fn full_column(name: &str) {
+fn full_column(out: &mut impl Write, name: &str) -> io::Result<()> {
     let bench = Bench::named(name);
     let calls = Call::TIMED.iter();
     let library = calls.clone().map(|&call| on_library(bench.clone(), call));
     let model = calls.clone().map(|&call| on_model(bench.clone(), call));
     let times = Times::of(library.chain(model).collect());
-    println!("\n{name}, 64 slices: microseconds a call");
+    writeln!(out, "\n{name}, 64 slices: microseconds a call")?;
     for (i, call) in calls.clone().enumerate() {
         let signal = 1e3 * times.call(i).median / 2048.0;
         let note = format!("{signal:.1} ns a signal");
-        line(call.name(), times.call(i), 1, &note);
+        line(out, call.name(), times.call(i), 1, &note)?;
     }
-    println!("more than the judge, microseconds");
+    writeln!(out, "more than the judge, microseconds")?;
     for (i, call) in calls.clone().enumerate().skip(1) {
-        line(call.name(), times.difference(i, 0), 1, "");
+        line(out, call.name(), times.difference(i, 0), 1, "")?;
     }
-    println!("the second program, times the library");
+    writeln!(out, "the second program, times the library")?;
     for (i, call) in calls.enumerate() {
-        line(call.name(), times.ratio(Call::TIMED.len() + i, i), 2, "");
+        let ratio = times.ratio(Call::TIMED.len() + i, i);
+        line(out, call.name(), ratio, 2, "")?;
     }
+    Ok(())
 }
 
 /// The judge on every column, beside the deep one and beside the accepted one of its kind.
-fn judged_files() {
+fn judged_files(out: &mut impl Write) -> io::Result<()> {
     let judge = |&(name, _): &(&str, _)| on_library(Bench::named(name), Call::Judge);
     let times = Times::of(NAMED.iter().map(judge).collect());
-    println!("\nthe judge on 64 slices, times the deep column");
+    writeln!(out, "\nthe judge on 64 slices, times the deep column")?;
     for (i, (name, _)) in NAMED.iter().enumerate() {
         let note = match Bench::named(name).library(Call::Judge) {
             Ok(()) => "accepted".to_string(),
             Err(refused) => format!("refused {} {}", refused.number, refused.place),
         };
-        line(name, times.ratio(i, 0), 2, &note);
+        line(out, name, times.ratio(i, 0), 2, &note)?;
     }
-    println!("times the accepted column of its kind");
+    writeln!(out, "times the accepted column of its kind")?;
     for (i, (name, _)) in NAMED.iter().enumerate() {
         if let Some((kind, "looped" | "each looped")) = name.split_once(' ') {
             let accepted = NAMED.iter().position(|(name, _)| *name == kind);
-            line(name, times.ratio(i, accepted.expect("its kind")), 2, "");
+            let ratio = times.ratio(i, accepted.expect("its kind"));
+            line(out, name, ratio, 2, "")?;
         }
     }
+    Ok(())
 }
 
 /// Each timed call on the deep column of each size.
-fn growth() {
+fn growth(out: &mut impl Write) -> io::Result<()> {
     let sized = |&n: &usize| Bench::new(columns::deep(n).bytes());
     let benches: Vec<Bench> = SIZES.iter().map(sized).collect();
     let timed = |&call: &Call| benches.iter().map(move |b| on_library(b.clone(), call));
     let times = Times::of(Call::TIMED.iter().flat_map(timed).collect());
-    println!("\ndeep, by slices: microseconds a slice, fastest");
+    writeln!(out, "\ndeep, by slices: microseconds a slice, fastest")?;
     let names = Call::TIMED
         .iter()
         .map(|call| format!("{:>12}", call.name()));
-    println!("  slices{}", names.collect::<String>());
+    writeln!(out, "  slices{}", names.collect::<String>())?;
     for (i, n) in SIZES.into_iter().enumerate() {
         let slice = |k| times.call(SIZES.len() * k + i).fastest / n as f64;
         let line = (0..Call::TIMED.len()).map(|k| format!("{:12.2}", slice(k)));
-        println!("  {n:>6}{}", line.collect::<String>());
+        writeln!(out, "  {n:>6}{}", line.collect::<String>())?;
     }
-    println!("a slice of 64, times a slice of 1");
+    writeln!(out, "a slice of 64, times a slice of 1")?;
     for (k, call) in Call::TIMED.iter().enumerate() {
         let first = SIZES.len() * k;
         let growth = times.ratio(first + SIZES.len() - 1, first);
-        line(call.name(), growth.scaled(1.0 / 64.0), 2, "");
+        line(out, call.name(), growth.scaled(1.0 / 64.0), 2, "")?;
     }
+    Ok(())
 }
 
 /// A full column fed to a reader in runs, with the end, beside the judge on its file.
-fn fed(name: &str) {
+fn fed(out: &mut impl Write, name: &str) -> io::Result<()> {
     let bench = Bench::named(name);
     let runs = RUNS.map(|length| on_runs(bench.clone(), length));
     let judge = on_library(bench.clone(), Call::Judge);
     let times = Times::of([judge].into_iter().chain(runs).collect());
     let runs = RUNS.map(|length| format!("feed in runs of {length}"));
-    println!("\n{name}, 64 slices: nanoseconds a byte");
+    writeln!(out, "\n{name}, 64 slices: nanoseconds a byte")?;
     let byte = 1e3 / bench.length() as f64;
-    line("judge", times.call(0).scaled(byte), 2, "");
+    line(out, "judge", times.call(0).scaled(byte), 2, "")?;
     for (i, run) in runs.iter().enumerate() {
-        line(run, times.call(i + 1).scaled(byte), 2, "");
+        line(out, run, times.call(i + 1).scaled(byte), 2, "")?;
     }
-    println!("times the judge");
+    writeln!(out, "times the judge")?;
     for (i, run) in runs.iter().enumerate() {
-        line(run, times.ratio(i + 1, 0), 2, "");
+        line(out, run, times.ratio(i + 1, 0), 2, "")?;
     }
+    Ok(())
 }
 
 /// The deep column of some sizes fed byte by byte.
-fn fed_growth() {
+fn fed_growth(out: &mut impl Write) -> io::Result<()> {
     let benches = FED.map(|n| Bench::new(columns::deep(n).bytes()));
     let timed = benches.clone().map(|bench| on_runs(bench, 1));
     let times = Times::of(timed.into_iter().collect());
-    println!("\ndeep, fed byte by byte, by slices: nanoseconds a byte");
+    writeln!(
+        out,
+        "\ndeep, fed byte by byte, by slices: nanoseconds a byte"
+    )?;
     for (i, n) in FED.iter().enumerate() {
         let byte = 1e3 / benches[i].length() as f64;
-        line(&n.to_string(), times.call(i).scaled(byte), 2, "");
+        line(out, &n.to_string(), times.call(i).scaled(byte), 2, "")?;
     }
+    Ok(())
 }
 
 /// The deepest stack of each call over all columns.
-fn stack() {
-    println!(
+fn stack(out: &mut impl Write) -> io::Result<()> {
+    writeln!(
+        out,
         "\nbytes of stack, the most over all columns of 64 slices, the wrapper in Rust included"
-    );
+    )?;
     for call in Call::ALL {
         let depths = NAMED.iter().map(|(name, _)| {
             let mut bench = Bench::named(name);
@@ -173,6 +182,7 @@ fn stack() {
                 let _ = black_box(bench.library(call));
             })
         });
-        println!("  {:<34}{:>8}", call.name(), depths.max().unwrap_or(0));
+        writeln!(out, "  {:<34}{:>8}", call.name(), depths.max().unwrap_or(0))?;
     }
+    Ok(())
 }

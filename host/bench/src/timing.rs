@@ -26,7 +26,7 @@ impl Spread {
     }
 }
 
-/// Microseconds of each call in each round.
+/// Times of each call in each round, in microseconds where they are not scaled.
 pub struct Times {
     rounds: Vec<Vec<f64>>,
 }
@@ -42,6 +42,13 @@ impl Times {
         Times {
             rounds: (0..ROUNDS).map(round).collect(),
         }
+    }
+
+    /// The same in another unit.
+    pub fn scaled(mut self, scale: f64) -> Times {
+        let all = self.rounds.iter_mut().flatten();
+        all.for_each(|time| *time *= scale);
+        self
     }
 
     pub fn call(&self, call: usize) -> Spread {

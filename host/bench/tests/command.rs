@@ -1,5 +1,6 @@
 //! The command `bench`: one call for a profiler, and other words.
 
+use std::fs::File;
 use std::process::{Command, Output};
 
 use testkit::command::{assert_fails, assert_writes};
@@ -24,6 +25,14 @@ fn fails_on_other_words() {
     for words in [&["settle"][..], &["settle", "deep", "deep"]] {
         assert_fails(&bench(words), "bench: no argument, or a call and a column;");
     }
+}
+
+#[test]
+fn fails_where_nothing_can_be_written() {
+    let mut command = Command::new(env!("CARGO_BIN_EXE_bench"));
+    let full = File::create("/dev/full").expect("a full device");
+    let output = command.stdout(full).output().expect("run bench");
+    assert_fails(&output, "bench: standard output: ");
 }
 
 #[test]

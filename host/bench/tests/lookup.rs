@@ -179,6 +179,16 @@ fn fails_where_a_way_is_missing() {
 }
 
 #[test]
+fn fails_where_nothing_can_be_written() {
+    let ways = ["shift", "other"].map(|name| way("written", name, &[]));
+    let mut command = Command::new(env!("CARGO_BIN_EXE_lookup"));
+    let full = fs::File::create("/dev/full").expect("a full device");
+    let output = command.args(ways).stdout(full).output();
+    let output = output.expect("run lookup");
+    assert_fails(&output, "lookup: standard output: ");
+}
+
+#[test]
 fn help() {
     let text = include_str!("../../help/lookup");
     assert_writes(&lookup(&[&PathBuf::from("--help")]), 0, text);

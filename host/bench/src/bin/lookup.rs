@@ -7,6 +7,7 @@ use bench::timing::Times;
 use bench::ways::Way;
 use std::ffi::OsString;
 use std::hint::black_box;
+use std::io::{self, stdout, Write};
 use std::path::Path;
 use std::process::ExitCode;
 
@@ -34,8 +35,10 @@ fn main() -> ExitCode {
     if let Err(why) = ways.iter().try_for_each(|way| lookups.check(way)) {
         return failed(why, 1);
     }
-    report(&ways, &lookups);
-    ExitCode::SUCCESS
+    match report(&mut stdout(), &ways, &lookups) {
+        Ok(()) => ExitCode::SUCCESS,
+        Err(error) => failed(format!("standard output: {error}"), 2),
+    }
 }
 
 fn failed(why: String, status: u8) -> ExitCode {
@@ -43,19 +46,32 @@ fn failed(why: String, status: u8) -> ExitCode {
     ExitCode::from(status)
 }
 
-fn report(ways: &[Way], lookups: &Lookups) {
+fn report(out: &mut impl Write, ways: &[Way], lookups: &Lookups) -> io::Result<()> {
     let (words, picks) = (lookups.words().len(), lookups.picks().len());
-    println!("All ways agree with the second program: at every place of {words} random words, in a row of {picks} look-ups, in a settle.");
-    heading();
+    writeln!(out, "All ways agree with the second program: at every place of {words} random words, in a row of {picks} look-ups, in a settle.")?;
+    heading(out)?;
     let each = 1e3 / picks as f64;
     let chain = "a chain, each place moved on by the bit before: nanoseconds a look-up";
-    section(ways, 0, chain, rows(ways, lookups, Way::chained), each);
+    section(
+        out,
+        ways,
+        0,
+        chain,
+        rows(ways, lookups, Way::chained).scaled(each),
+    )?;
     let apart = "independent look-ups: nanoseconds a look-up";
-    section(ways, 0, apart, rows(ways, lookups, Way::apart), each);
+    section(
+        out,
+        ways,
+        0,
+        apart,
+        rows(ways, lookups, Way::apart).scaled(each),
+    )?;
     for name in ["deep", "irregular"] {
         let settle = format!("a settle of {name}, 64 slices: microseconds a call");
-        section(ways, 1, &settle, settles(ways, &Bench::named(name)), 1.0);
+        section(out, ways, 1, &settle, settles(ways, &Bench::named(name)))?;
     }
+    Ok(())
 }
 
 /// One call of each way, to be timed.
@@ -83,12 +99,18 @@ fn settles(ways: &[Way], bench: &Bench) -> Times {
 }
 
 /// Times of all ways, and beside the first; `code` is the library that they are in.
-fn section(ways: &[Way], code: usize, title: &str, times: Times, scale: f64) {
-    println!("\n{title}");
+fn section(
+    out: &mut impl Write,
+    ways: &[Way],
+    code: usize,
+    title: &str,
+    times: Times,
+) -> io::Result<()> {
+    writeln!(out, "\n{title}")?;
     for (i, way) in ways.iter().enumerate() {
-        line(&way.name, times.call(i).scaled(scale), 2, "");
+        line(out, &way.name, times.call(i), 2, "")?;
     }
-    println!("times {}", ways[0].name);
+    writeln!(out, "times {}", ways[0].name)?;
     for (i, way) in ways.iter().enumerate().skip(1) {
         let same = way.code[code] == ways[0].code[code];
         let note = if same {
@@ -96,6 +118,7 @@ fn section(ways: &[Way], code: usize, title: &str, times: Times, scale: f64) {
         } else {
             ""
         };
-        line(&way.name, times.ratio(i, 0), 3, note);
+        line(out, &way.name, times.ratio(i, 0), 3, note)?;
     }
+    Ok(())
 }
