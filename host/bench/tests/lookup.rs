@@ -59,7 +59,8 @@ fn replace(library: &Path, code: &str) {
 
 /// The folder of a way: rows in C with definitions, and the library itself.
 fn way(test: &str, name: &str, definitions: &[&str]) -> PathBuf {
-    let folder = Path::new(env!("CARGO_TARGET_TMPDIR")).join(test).join(name);
+    let folder = Path::new(env!("CARGO_TARGET_TMPDIR")).join("ways");
+    let folder = folder.join(test).join(name);
     let _ = fs::remove_dir_all(&folder);
     fs::create_dir_all(&folder).expect("a folder");
     compile(&folder.join("lookuprows.so"), ROWS, definitions);
