@@ -1,6 +1,6 @@
 -- A word masked with one bit. Assumes nothing.
 use mathlib.Core.Path.{_≡_, refl, _∙_, sym, ap}
-use Prim.Native.Nat.{ℕ, zero, suc, _+_, _-_, _*_, _/_, _%_, _^_, _<_}
+use Prim.Native.Nat.{ℕ, zero, suc, _+_, _-_, _*_, _%_, _^_, _<_}
 use native.Mathlib.Nat.{mod-lt, one-mul, zero-mul, suc-mul}
 use native.Mathlib.Omega.{arith}
 use lib.Dec.{lit<}
@@ -8,7 +8,7 @@ use lib.Bits.{bitAnd, and-high}
 use lib.Pow.{pow-pos, pow-add, shl-exact}
 use Rattle.netlist.specs.Rule.{bitAt}
 
--- a digit is 0 exactly where its multiple is
+-- a digit is 0 where its multiple is, and else it is 1
 digit-0 : (b p : ℕ) → 0 < p → b * p ≡ 0 → 0 ≡ b
 digit-0 zero p pos e = refl
 digit-0 (suc b) p pos e = omega (arith, suc-mul b p)
