@@ -4,13 +4,9 @@ use Prim.Native.Nat.{ℕ, _+_, _-_, _*_, _/_, _%_, _^_, _≤_, _<_}
 use native.Mathlib.Nat.{mod-lt, mul-le-mul-right, one-mul}
 use native.Mathlib.Omega.{arith}
 use lib.Arith.{digits-lt}
-use lib.Pow.{pow-pos, pow-add, shl-exact, shr-lt, split, mod-pow-add}
+use lib.Pow.{pow-pos, pow-add, shr-lt, split, mod-pow-add}
 use Rattle.netlist.specs.Rule.{bitAt}
 use Rattle.series7.specs.Edge.{withBit}
-
--- a power that fits
-pub power : (i : ℕ) → i < 64 → (1 * 2 ^ i) % 2 ^ 64 ≡ 2 ^ i
-power i h = shl-exact 1 i 64 (omega arith) (omega arith) ∙ one-mul (2 ^ i)
 
 module _ (c i : ℕ) where
   -- a word by what stands above bit i, that bit, and what stands below

@@ -1,12 +1,13 @@
 -- A word masked with one bit. Assumes nothing.
 use mathlib.Core.Path.{_≡_, refl, _∙_, sym, ap}
 use Prim.Native.Nat.{ℕ, zero, suc, _+_, _-_, _*_, _%_, _^_, _<_}
-use native.Mathlib.Nat.{mod-lt, one-mul, zero-mul, suc-mul}
+use native.Mathlib.Nat.{mod-lt, zero-mul, suc-mul}
 use native.Mathlib.Omega.{arith}
 use lib.Dec.{lit<}
 use lib.Bits.{bitAnd, and-high}
-use lib.Pow.{pow-pos, pow-add, shl-exact}
+use lib.Pow.{pow-pos, pow-add}
 use Rattle.netlist.specs.Rule.{bitAt}
+use Rattle.netlist.proofs.Bits.{power}
 
 -- a digit is 0 where its multiple is, and else it is 1
 digit-0 : (b p : ℕ) → 0 < p → b * p ≡ 0 → 0 ≡ b
@@ -22,7 +23,7 @@ module _ (w k : ℕ) (small : k < 64) where
   mask : 1 * 2 ^ k % 2 ^ 64 ≡ 2 ^ (1 + k) - 2 ^ k
   mask =
       let double : 2 ^ (1 + k) ≡ 2 * 2 ^ k = pow-add 2 1 k in
-      shl-exact 1 k 64 (omega arith) (omega arith) ∙ omega (arith, double, one-mul (2 ^ k))
+      power k small ∙ omega (arith, double)
 
   pub masked : bitAnd w (1 * 2 ^ k % 2 ^ 64) ≡ bitAt w k * 2 ^ k
   masked = ap (bitAnd w) mask ∙ and-high w 1 k

@@ -1,11 +1,12 @@
--- Every rule gives a bit, so settled and edited tables are bytes 0 and 1; a bit past the end is 0. Assumes nothing.
+-- Every rule gives a bit, so settled and edited tables are bytes 0 and 1. Bits of words. Assumes nothing.
 use mathlib.Core.Path.{_≡_, sym, ap, _∙_}
 use mathlib.Core.Bool.{Bool, true, false}
 use mathlib.Core.List.{List}
-use Prim.Native.Nat.{ℕ, zero, suc, _%_, _≤_, _<_}
-use native.Mathlib.Nat.{zero-div, zero-mod}
+use Prim.Native.Nat.{ℕ, zero, suc, _*_, _%_, _^_, _≤_, _<_}
+use native.Mathlib.Nat.{zero-div, zero-mod, one-mul}
 use native.Mathlib.Omega.{arith}
 use lib.ListN.{length, getD, List·getD-eq-default}
+use lib.Pow.{shl-exact}
 use Rattle.netlist.specs.declared.Source.{Source}
 use Rattle.netlist.specs.declared.Source.the-variants.{Constant, Input, Signal}
 use Rattle.netlist.specs.declared.Gate.{Gate}
@@ -26,6 +27,10 @@ choose-small (suc k) one none h l = h
 -- past the end of words every bit is 0
 pub past-end : (words : List ℕ) (i k : ℕ) → length words ≤ i → 0 ≡ bitAt (getD words i 0) k
 past-end words i k h = rw (List·getD-eq-default words 0 h) (sym (ap (λ (n : ℕ). n % 2) (zero-div _) ∙ zero-mod 2))
+
+-- 1 shifted to the left in a word
+pub power : (i : ℕ) → i < 64 → (1 * 2 ^ i) % 2 ^ 64 ≡ 2 ^ i
+power i h = shl-exact 1 i 64 (omega arith) (omega arith) ∙ one-mul (2 ^ i)
 
 -- the bit on a source is one
 pub value-bit : (inputs values : List ℕ) (s : Source) → valueOf inputs values s < 2

@@ -4,7 +4,8 @@ use native.Mathlib.Nat.{mul-le-mul-right, one-mul}
 use native.Mathlib.Omega.{arith}
 use borrow.Author.Needs.{needs}
 use lib.Pow.{pow-lt}
-use Rattle.clockedge.proofs.Bits.{power, bit-below, with-bit-fits}
+use Rattle.netlist.proofs.Bits.{power}
+use Rattle.clockedge.proofs.Bits.{bit-below, with-bit-fits}
 use Rattle.clockedge.proofs.with_bit.Statement.{statement}
 use Rattle.clockedge.proofs.with_bit.Tie as tie
 

@@ -74,28 +74,27 @@ fn report(out: &mut impl Write, ways: &[Way], lookups: &Lookups) -> io::Result<(
     Ok(())
 }
 
-/// One call of each way, to be timed.
-type Calls<'a> = Vec<Box<dyn FnMut() + 'a>>;
+/// Times one call of each way, in turns.
+fn timed<'a, F: FnMut() + 'a>(ways: &'a [Way], call: impl Fn(&'a Way) -> F) -> Times {
+    let boxed = |way| Box::new(call(way)) as Box<dyn FnMut() + 'a>;
+    Times::of(ways.iter().map(boxed).collect())
+}
 
 fn rows(ways: &[Way], lookups: &Lookups, row: fn(&Way, &[u64], &[u16]) -> u64) -> Times {
-    let mut calls: Calls = vec![];
-    for way in ways {
-        calls.push(Box::new(move || {
+    timed(ways, |way| {
+        move || {
             black_box(row(way, lookups.words(), lookups.picks()));
-        }));
-    }
-    Times::of(calls)
+        }
+    })
 }
 
 fn settles(ways: &[Way], bench: &Bench) -> Times {
-    let mut calls: Calls = vec![];
-    for way in ways {
+    timed(ways, |way| {
         let mut bench = bench.clone();
-        calls.push(Box::new(move || {
+        move || {
             black_box(way.settle(&mut bench));
-        }));
-    }
-    Times::of(calls)
+        }
+    })
 }
 
 /// Times of all ways, and beside the first; `code` is the library that they are in.
