@@ -15,7 +15,7 @@ use Rattle.netlist.specs.declared.Source.{Source}
 use Rattle.netlist.specs.declared.Source.the-variants.{Constant, Input, Signal}
 use Rattle.netlist.specs.declared.Gate.{Gate}
 use Rattle.netlist.specs.declared.Gate.the-variants.{Lut, ZeroOf, Select, Xor, Same, Stored}
-use Rattle.netlist.specs.Table.{signalLimit, rowLength, signalCount, codeOf, sourceOf, gateNumbers, gateWith, gateOf, storeGate, inputRoom, SourceFits, GateFits}
+use Rattle.netlist.specs.Table.{signalLimit, rowLength, signalCount, signalWire, inputWire, wireCount, inputRoom, codeOf, sourceOf, selectHead, storedHead, gateNumbers, gateWith, gateOf, storeGate, SourceFits, GateFits}
 
 -- a run of stores leaves what stands before it and after it
 sets-other : (vs l : List ℕ) (i j : ℕ) → (j < i) ⊎ (i + length vs ≤ j) → getD (sets l i vs) j 0 ≡ getD l j 0
@@ -34,24 +34,32 @@ sets-at (a ∷ vs) l i (suc k) h fits =
     rw e (sets-at vs (set l i a) (suc i) k (le-of-suc-le-suc h) (omega (arith, length-set l i a)))
 
 -- a code fits 16 bits
-pub code-fits : (n : ℕ) (s : Source) → signalCount n ≤ signalLimit → SourceFits n inputRoom s → codeOf s < 65536
+pub code-fits : (n : ℕ) (s : Source) → signalCount n ≤ signalLimit → SourceFits n inputRoom s → codeOf n s < 65536
 unfolding codeOf
 code-fits n (Constant true) h f = lit< tt
 code-fits n (Constant false) h f = lit< tt
 code-fits n (Input j) h f = omega arith
 code-fits n (Signal x) h f = omega arith
 
--- a code says its source
-pub source-back : (n : ℕ) (s : Source) → SourceFits n inputRoom s → sourceOf (codeOf s) ≡ s
+-- and is a wire of the netlist
+pub code-wire : (n m : ℕ) (s : Source) → SourceFits n m s → codeOf n s < wireCount n m
+unfolding codeOf
+code-wire n m (Constant true) f = omega arith
+code-wire n m (Constant false) f = omega arith
+code-wire n m (Input j) f = omega arith
+code-wire n m (Signal x) f = omega arith
+
+-- a source's code says the source
+pub source-back : (n m : ℕ) (s : Source) → SourceFits n m s → sourceOf n (codeOf n s) ≡ s
 unfolding codeOf sourceOf
-source-back n (Constant true) f = refl
-source-back n (Constant false) f = refl
-source-back n (Input j) f =
-    let e : 256 + j - 256 ≡ j = omega arith in
-    rw (le-ltb (256 + j) 256 (omega arith), lt-ltb (256 + j) 4096 (omega arith), e)
-source-back n (Signal x) f =
-    let e : 4096 + x - 4096 ≡ x = omega arith in
-    rw (le-ltb (4096 + x) 256 (omega arith), le-ltb (4096 + x) 4096 (omega arith), e)
+source-back n m (Constant true) f = refl
+source-back n m (Constant false) f = refl
+source-back n m (Input j) f =
+    let e : inputWire n + j - inputWire n ≡ j = omega arith in
+    rw (le-ltb (inputWire n + j) signalWire (omega arith), le-ltb (inputWire n + j) (inputWire n) (omega arith), e)
+source-back n m (Signal x) f =
+    let e : signalWire + x - signalWire ≡ x = omega arith in
+    rw (le-ltb (signalWire + x) signalWire (omega arith), lt-ltb (signalWire + x) (inputWire n) (omega arith), e)
 
 -- a gate goes by its head and its six sources
 gate-same :
@@ -62,23 +70,28 @@ gate-same n head head′ p q e f =
 
 -- a gate's numbers say the gate
 gate-back :
-    (n : ℕ) (gate : Gate) → GateFits n inputRoom gate
-    → gateWith n (getD (gateNumbers n gate) 0 0) (λ i. sourceOf (getD (gateNumbers n gate) i 0)) ≡ gate
+    (n m : ℕ) (gate : Gate) → GateFits n m gate
+    → gateWith n (getD (gateNumbers n gate) 0 0) (λ i. sourceOf n (getD (gateNumbers n gate) i 0)) ≡ gate
 unfolding gateNumbers gateWith GateFits
-gate-back n (Lut t p1 p2 p3 p4 p5 p6) f =
-    rw (lt-ltb t (4 * n) (f .0), source-back n p1 (f .1), source-back n p2 (f .2), source-back n p3 (f .3), source-back n p4 (f .4), source-back n p5 (f .5), source-back n p6 (f .6))
-gate-back n (ZeroOf t) f =
+gate-back n m (Lut t p1 p2 p3 p4 p5 p6) f =
+    rw (lt-ltb t (4 * n) (f .0), source-back n m p1 (f .1), source-back n m p2 (f .2), source-back n m p3 (f .3), source-back n m p4 (f .4), source-back n m p5 (f .5), source-back n m p6 (f .6))
+gate-back n m (ZeroOf t) f =
     let e : 4 * n + t - 4 * n ≡ t = omega arith in
-    rw (le-ltb (4 * n + t) (4 * n) (omega arith), lt-ltb (4 * n + t) (8 * n) (omega arith), e)
-gate-back n (Select s one none) f =
-    rw (le-ltb (16 * n) (4 * n) (omega arith), le-ltb (16 * n) (8 * n) (omega arith), le-ltb (16 * n) (16 * n) (omega arith), eq-eqb (16 * n) (16 * n) refl, source-back n s (f .0), source-back n one (f .1), source-back n none (f .2))
-gate-back n (Xor a b) f =
-    rw (le-ltb (16 * n + 1) (4 * n) (omega arith), le-ltb (16 * n + 1) (8 * n) (omega arith), le-ltb (16 * n + 1) (16 * n) (omega arith), ne-eqb (16 * n + 1) (16 * n) (λ e. omega arith), eq-eqb (16 * n + 1) (16 * n + 1) refl, source-back n a (f .0), source-back n b (f .1))
-gate-back n (Same a) f =
-    rw (le-ltb (16 * n + 2) (4 * n) (omega arith), le-ltb (16 * n + 2) (8 * n) (omega arith), le-ltb (16 * n + 2) (16 * n) (omega arith), ne-eqb (16 * n + 2) (16 * n) (λ e. omega arith), ne-eqb (16 * n + 2) (16 * n + 1) (λ e. omega arith), source-back n a f)
-gate-back n (Stored q) f =
-    let e : 8 * n + q - 8 * n ≡ q = omega arith in
-    rw (le-ltb (8 * n + q) (4 * n) (omega arith), le-ltb (8 * n + q) (8 * n) (omega arith), lt-ltb (8 * n + q) (16 * n) (omega arith), e)
+    rw (le-ltb (4 * n + t) (4 * n) (omega arith), lt-ltb (4 * n + t) (selectHead n) (omega arith), e)
+gate-back n m (Select s one none) f =
+    let h = selectHead n in
+    rw (le-ltb h (4 * n) (omega arith), le-ltb h h (omega arith), eq-eqb h h refl, source-back n m s (f .0), source-back n m one (f .1), source-back n m none (f .2))
+gate-back n m (Xor a b) f =
+    let h = selectHead n in
+    rw (le-ltb (h + 1) (4 * n) (omega arith), le-ltb (h + 1) h (omega arith), ne-eqb (h + 1) h (λ e. omega arith), eq-eqb (h + 1) (h + 1) refl, source-back n m a (f .0), source-back n m b (f .1))
+gate-back n m (Same a) f =
+    let h = selectHead n in
+    rw (le-ltb (h + 2) (4 * n) (omega arith), le-ltb (h + 2) h (omega arith), ne-eqb (h + 2) h (λ e. omega arith), ne-eqb (h + 2) (h + 1) (λ e. omega arith), eq-eqb (h + 2) (h + 2) refl, source-back n m a f)
+gate-back n m (Stored q) f =
+    let h = selectHead n in
+    let k = storedHead n + q in
+    let e : k - storedHead n ≡ q = omega arith in
+    rw (le-ltb k (4 * n) (omega arith), le-ltb k h (omega arith), ne-eqb k h (λ e. omega arith), ne-eqb k (h + 1) (λ e. omega arith), ne-eqb k (h + 2) (λ e. omega arith), e)
 
 seven : (n : ℕ) (gate : Gate) → length (gateNumbers n gate) ≡ 7
 unfolding gateNumbers
@@ -94,8 +107,8 @@ module _ (table : List ℕ) (n x : ℕ) (gate : Gate) where
   pub stored-gate : rowLength * x + rowLength ≤ length table → GateFits n inputRoom gate → gateOf (storeGate table n x gate) n x ≡ gate
   unfolding gateOf storeGate
   stored-gate fits f =
-      gate-same n _ _ _ (λ i. sourceOf (getD (gateNumbers n gate) i 0)) (rw zero-add at (at 0 (lit< tt))) (λ i h. ap sourceOf (at i h))
-      ∙ gate-back n gate f
+      gate-same n _ _ _ (λ i. sourceOf n (getD (gateNumbers n gate) i 0)) (rw zero-add at (at 0 (lit< tt))) (λ i h. ap (sourceOf n) (at i h))
+      ∙ gate-back n inputRoom gate f
     where
       at : (i : ℕ) → i < rowLength → getD (sets table (rowLength * x) (gateNumbers n gate)) (rowLength * x + i) 0 ≡ getD (gateNumbers n gate) i 0
       at i h = sets-at (gateNumbers n gate) table (rowLength * x) i (omega (arith, seven n gate)) (omega (arith, seven n gate))
@@ -107,7 +120,7 @@ module _ (table : List ℕ) (n x : ℕ) (gate : Gate) where
   pub kept-gate : (y : ℕ) → (y ≡ x → ⊥) → gateOf (storeGate table n x gate) n y ≡ gateOf table n y
   unfolding gateOf storeGate
   kept-gate y d =
-      gate-same n _ _ _ _ (rw zero-add at (at 0 (lit< tt))) (λ i h. ap sourceOf (at i h))
+      gate-same n _ _ _ _ (rw zero-add at (at 0 (lit< tt))) (λ i h. ap (sourceOf n) (at i h))
     where
       side : (i : ℕ) → i < rowLength → Dec (y < x) → (rowLength * y + i < rowLength * x) ⊎ (rowLength * x + length (gateNumbers n gate) ≤ rowLength * y + i)
       side i h (yes l) = inl (omega arith)

@@ -3,4 +3,5 @@ pub mod Graph
 pub mod Settle
 pub mod Invariant
 pub mod Table
+pub mod Wires
 pub mod Agree

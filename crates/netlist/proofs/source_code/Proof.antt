@@ -9,8 +9,8 @@ use Rattle.netlist.proofs.source_code.Statement.{statement}
 use Rattle.netlist.proofs.source_code.Tie as tie
 
 -- the code of the source that was found fits
-small : (c : tie.Start) {s : Source} → c .args .source ≡ s → codeOf s < 65536
-small c e = subst (λ (s : Source). codeOf s < 65536) e (c .pre)
+small : (c : tie.Start) {s : Source} → c .args .source ≡ s → codeOf (c .args .n) s < 65536
+small c e = subst (λ (s : Source). codeOf (c .args .n) s < 65536) e (c .pre .1)
 
 enum-known-source : tie.Need-enum-known-source
 enum-known-source c = search needs
@@ -18,9 +18,15 @@ enum-known-source c = search needs
 enum-known-source-2 : tie.Need-enum-known-source-2
 enum-known-source-2 c = search needs
 
+mul-result : tie.Need-mul-result
+mul-result c = search needs
+
 add-result : tie.Need-add-result
+add-result c = search needs
+
+add-result-2 : tie.Need-add-result-2
 unfolding codeOf
-add-result c = omega (arith, small (c .before .before .before) (c .before .source2 .given .1))
+add-result-2 c = omega (arith, small (c .before .before .before) (c .before .source2 .given .1))
 
 cast-result : tie.Need-cast-result
 unfolding codeOf
@@ -29,9 +35,9 @@ cast-result c = omega (arith, small (c .before .before .before) (c .before .sour
 enum-known-source-3 : tie.Need-enum-known-source-3
 enum-known-source-3 c = search needs
 
-add-result-2 : tie.Need-add-result-2
+add-result-3 : tie.Need-add-result-3
 unfolding codeOf
-add-result-2 c = omega (arith, small (c .before .before .before) (c .before .source3 .given .1))
+add-result-3 c = omega (arith, small (c .before .before .before) (c .before .source3 .given .1))
 
 cast-result-2 : tie.Need-cast-result-2
 unfolding codeOf
@@ -59,10 +65,12 @@ source-code-spec =
     (tie.spec
     enum-known-source
     enum-known-source-2
+    mul-result
     add-result
+    add-result-2
     cast-result
     enum-known-source-3
-    add-result-2
+    add-result-3
     cast-result-2
     returns
     returns-2

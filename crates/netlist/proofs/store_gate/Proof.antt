@@ -1,7 +1,7 @@
 -- `netlist::store_gate` meets its contract, in each arm by the constructor that it is given. Assumes nothing.
 use mathlib.Core.Path.{_≡_, subst}
 use mathlib.Core.Bool.{false}
-use Prim.Native.Nat.{_<_}
+use Prim.Native.Nat.{ℕ, _<_}
 use native.Mathlib.Omega.{arith}
 use lib.Dec.{lit<}
 use Rattle.netlist.specs.declared.Source.{Source}
@@ -17,12 +17,12 @@ use Rattle.netlist.proofs.store_gate.Tie as tie
 fits : (c : tie.Start) {gate : Gate} → c .args .gate ≡ gate → GateFits (c .args .n) inputRoom gate
 fits c e = subst (GateFits (c .args .n) inputRoom) e (c .pre .2)
 
-code : (c : tie.Start) (s : Source) → SourceFits (c .args .n) inputRoom s → codeOf s < 65536
+code : (c : tie.Start) (s : Source) → SourceFits (c .args .n) inputRoom s → codeOf (c .args .n) s < 65536
 code c s f = code-fits (c .args .n) s (c .pre .0 .0) f
 
-unused : codeOf (Constant false) < 65536
+unused : (n : ℕ) → codeOf n (Constant false) < 65536
 unfolding codeOf
-unused = lit< tt
+unused n = lit< tt
 
 enum-known-gate : tie.Need-enum-known-gate
 enum-known-gate c = search needs
@@ -52,8 +52,9 @@ unfolding GateFits
 store-row-requires-2 c κs =
     let g = c .before .before in
     let s = g .before .before .before in
+    let u = unused (s .args .n) in
     let f = fits s (g .gate2 .given .1) in
-    (omega (arith, f), (unused, unused, unused, unused, unused, unused))
+    (omega (arith, f), (u, u, u, u, u, u))
 
 enum-known-gate-3 : tie.Need-enum-known-gate-3
 enum-known-gate-3 c = search needs
@@ -66,8 +67,9 @@ unfolding GateFits
 store-row-requires-3 c κs =
     let g = c .before .before in
     let s = g .before .before .before in
+    let u = unused (s .args .n) in
     let f = fits s (g .gate3 .given .1) in
-    (omega arith, (code s _ (f .0), code s _ (f .1), code s _ (f .2), unused, unused, unused))
+    (omega arith, (code s _ (f .0), code s _ (f .1), code s _ (f .2), u, u, u))
 
 enum-known-gate-4 : tie.Need-enum-known-gate-4
 enum-known-gate-4 c = search needs
@@ -83,8 +85,9 @@ unfolding GateFits
 store-row-requires-4 c κs =
     let g = c .before .before in
     let s = g .before .before .before in
+    let u = unused (s .args .n) in
     let f = fits s (g .gate4 .given .1) in
-    (omega arith, (code s _ (f .0), code s _ (f .1), unused, unused, unused, unused))
+    (omega arith, (code s _ (f .0), code s _ (f .1), u, u, u, u))
 
 enum-known-gate-5 : tie.Need-enum-known-gate-5
 enum-known-gate-5 c = search needs
@@ -100,8 +103,9 @@ unfolding GateFits
 store-row-requires-5 c κs =
     let g = c .before .before in
     let s = g .before .before .before in
+    let u = unused (s .args .n) in
     let f = fits s (g .gate5 .given .1) in
-    (omega arith, (code s _ f, unused, unused, unused, unused, unused))
+    (omega arith, (code s _ f, u, u, u, u, u))
 
 enum-known-gate-6 : tie.Need-enum-known-gate-6
 enum-known-gate-6 c = search needs
@@ -110,8 +114,11 @@ mul-store-row-5 : tie.Need-mul-store-row-5
 mul-store-row-5 c = search needs
 
 add-store-row-4 : tie.Need-add-store-row-4
+add-store-row-4 c = search needs
+
+add-store-row-5 : tie.Need-add-store-row-5
 unfolding GateFits
-add-store-row-4 c =
+add-store-row-5 c =
     let g = c .before .before in
     omega (arith, fits (g .before .before .before) (g .gate6 .given .1))
 
@@ -120,8 +127,9 @@ unfolding GateFits
 store-row-requires-6 c κs =
     let g = c .before .before in
     let s = g .before .before .before in
+    let u = unused (s .args .n) in
     let f = fits s (g .gate6 .given .1) in
-    (omega (arith, f), (unused, unused, unused, unused, unused, unused))
+    (omega (arith, f), (u, u, u, u, u, u))
 
 same-length : tie.Need-same-length
 same-length c = search needs
@@ -189,6 +197,7 @@ store-gate-spec =
     enum-known-gate-6
     mul-store-row-5
     add-store-row-4
+    add-store-row-5
     store-row-requires-6
     same-length
     returns
