@@ -1,21 +1,19 @@
--- The number on a row of codes, one code after the other. Assumes nothing.
+-- The number on a row of wires, one wire after the other. Assumes nothing.
 use mathlib.Core.Path.{_≡_}
 use mathlib.Core.List.{List}
 use Prim.Native.Nat.{ℕ, suc, _+_, _-_, _*_, _^_, _≤_, _<_}
 use native.Mathlib.Nat.{two-pow-succ}
 use native.Mathlib.Omega.{arith}
 use lib.ListN.{getD}
-use Rattle.netlist.specs.Table.{sourceOf}
-use Rattle.netlist.specs.declared.Source.{Source}
-use Rattle.evaluation.specs.Codes.{numberOn}
+use Rattle.evaluation.specs.Numbers.{numberOn}
 
-module _ (v : Source → ℕ) (e : List ℕ) (i j k : ℕ) (more : 0 < j) (fits : j ≤ k) where
+module _ (wires e : List ℕ) (i j k : ℕ) (more : 0 < j) (fits : j ≤ k) where
   one-more : k - (j - 1) ≡ suc (k - j)
   one-more = omega arith
 
-  -- one more source, below those that are counted
+  -- one more wire, below those that are counted
   pub number-more :
-      numberOn v e (i + (j - 1)) (k - (j - 1)) ≡ v (sourceOf (getD e (i + (j - 1)) 0)) + 2 * numberOn v e (i + j) (k - j)
+      numberOn wires e (i + (j - 1)) (k - (j - 1)) ≡ getD wires (getD e (i + (j - 1)) 0) 0 + 2 * numberOn wires e (i + j) (k - j)
   unfolding numberOn
   number-more =
       let place : suc (i + (j - 1)) ≡ i + j = omega arith in

@@ -1,97 +1,64 @@
-// The gate table read: the bit on a code, the number on a row of codes, and what a signal's gate gives from a value table.
+// The gate table read over the wires of a netlist: the number on a row of wires, and what a signal's gate gives.
 ghost use mathlib.Core.Path.{_≡_};
-ghost use Prim.Native.Nat.{_+_, _/_, _%_, _^_, _≤_, _<_};
+ghost use Prim.Native.Nat.{_+_, _*_, _^_, _≤_, _<_};
 ghost use lib.ListN.{length, getD};
 ghost use Rattle.lent.specs.Lent.{was};
-ghost use Rattle.netlist.specs.Rule.{bitAt, ruleOf};
-ghost use Rattle.netlist.specs.Table.{signalCount, IsTable, sourceOf, gateOf};
-ghost use Rattle.evaluation.specs.Codes.{numberOn};
-ghost use Rattle.evaluation.specs.Environment.{envWas, valueWas};
+ghost use Rattle.netlist.specs.Rule.{choose};
+ghost use Rattle.netlist.specs.Table.{rowLength, signalCount, IsTable, storedHead};
+ghost use Rattle.evaluation.specs.Numbers.{Bits, AreWires, numberOn, GateGives};
 
-// The low bit of byte `i`, 0 past the end.
-fn low_bit(bytes: &[u8], i: usize) -> u8
-    ensures { λ r. ⌜ r ≡ getD (was bytes) i 0 % 2 ⌝ }
+// The bit on the wire at a number.
+pub fn wire(wires: &[u8], number: u16) -> u8
+    requires { ⌜ (number < length (now wires)) × Bits (now wires) ⌝ }
+    ensures { λ r. ⌜ (r ≡ getD (was wires) number 0) × (r < 2) ⌝ }
 {
-    if i < bytes.len() { bytes[i] % 2 } else { 0 }
+    wires[number as usize]
 }
 
-// The bit on the source of a code.
-pub fn code_value(code: u16, inputs: &[u8], values: &[u8]) -> u8
-    ensures { λ r. ⌜ (r ≡ valueWas inputs values (sourceOf code)) × (r < 2) ⌝ }
-{
-    if code < 256 {
-        if code == 1 {
-            return 1;
-        }
-        return 0;
-    }
-    if code < 4096 {
-        return low_bit(inputs, (code - 256) as usize);
-    }
-    low_bit(values, (code - 4096) as usize)
-}
-
-// The number on the k codes from place i, lowest first.
-pub fn number_on(codes: &[u16], i: usize, k: usize, inputs: &[u8], values: &[u8]) -> u8
-    requires { ⌜ (i + k ≤ length (now codes)) × (k ≤ 8) ⌝ }
-    ensures { λ r. ⌜ (r ≡ numberOn (valueWas inputs values) (was codes) i k) × (r < 2 ^ k) ⌝ }
+// The number on the wires at the k numbers from place i, lowest first.
+pub fn number_on(numbers: &[u16], i: usize, k: usize, wires: &[u8]) -> u8
+    requires { ⌜ (i + k ≤ length (now numbers)) × (k ≤ 8) × AreWires (now wires) (now numbers) i k × Bits (now wires) ⌝ }
+    ensures { λ r. ⌜ (r ≡ numberOn (was wires) (was numbers) i k) × (r < 2 ^ k) ⌝ }
 {
     let mut number: u8 = 0;
     let mut j = k;
     while 0 < j {
         j -= 1;
-        let b = code_value(codes[i + j], inputs, values);
+        let b = wire(wires, numbers[i + j]);
         number = b + 2 * number;
     }
     number
 }
 
-// The stored bit of flip-flop `slot`, 0 past the end.
-fn stored_bit(flops: &[u8], slot: usize) -> u8
-    ensures { λ r. ⌜ r ≡ bitAt (getD (was flops) (slot / 8) 0) (slot % 8) ⌝ }
+// A multiplexer whose sides are both at hand, so that choosing takes no branch.
+fn choose(select: u8, one: u8, zero: u8) -> u8
+    ensures { λ r. ⌜ r ≡ choose select one zero ⌝ }
 {
-    let at = slot / 8;
-    if at < flops.len() {
-        (flops[at] >> (slot % 8)) % 2
-    } else {
-        0
-    }
+    if select == 0 { zero } else { one }
 }
 
-// What signal x's gate gives from a value table, in the gate table of n slices.
-pub fn gate_value(
-    table: &[u16],
-    n: usize,
-    x: usize,
-    contents: &[u64],
-    flops: &[u8],
-    inputs: &[u8],
-    values: &[u8],
-) -> u8
-    requires { ⌜ IsTable n (now table) × (x < signalCount n) ⌝ }
-    ensures { λ r. ⌜ r ≡ ruleOf (envWas contents flops inputs) (was values) (gateOf (was table) n x) ⌝ }
+// What signal x's gate gives by the wires, in the gate table of n slices. It is no flip-flop's.
+pub fn gate_value(table: &[u16], n: usize, x: usize, contents: &[u64], wires: &[u8]) -> u8
+    requires { ⌜ IsTable n (now table) × (x < signalCount n) × (getD (now table) (rowLength * x) 0 < storedHead n) ⌝ }
+    requires { ⌜ AreWires (now wires) (now table) (rowLength * x + 1) 6 × Bits (now wires) ⌝ }
+    ensures { λ r. ⌜ GateGives (was contents) (was wires) n x (was table) r ⌝ }
 {
     let at = netlist::ROW * x;
     let head = table[at] as usize;
     if head < 4 * n {
-        let k = number_on(table, at + 1, 6, inputs, values);
+        let k = number_on(table, at + 1, 6, wires);
         return lookup::contents_bit(contents, head, k);
     }
     if head < 8 * n {
         return 0;
     }
-    if head < 16 * n {
-        return stored_bit(flops, head - 8 * n);
+    let first = wire(wires, table[at + 1]);
+    let second = wire(wires, table[at + 2]);
+    if head == 8 * n {
+        let third = wire(wires, table[at + 3]);
+        return choose(first, second, third);
     }
-    let first = code_value(table[at + 1], inputs, values);
-    if head == 16 * n {
-        if first == 0 {
-            return code_value(table[at + 3], inputs, values);
-        }
-        return code_value(table[at + 2], inputs, values);
-    }
-    if head == 16 * n + 1 {
-        let second = code_value(table[at + 2], inputs, values);
+    if head == 8 * n + 1 {
         return (first + second) % 2;
     }
     first

@@ -9,5 +9,8 @@ pub mod Editing
 pub mod Bits
 pub mod Net
 pub mod Table
+pub mod Wires
+pub mod Zeros
+pub mod Flops
 pub mod Fitting
 pub mod Agree

@@ -1,4 +1,6 @@
 pub mod Place
+pub mod Laying
+pub mod Turns
 pub mod Reached
 pub mod Rows
 pub mod Edits

@@ -3,11 +3,10 @@ use mathlib.Core.Path.{_≡_, refl, sym, _∙_, ap, ap₂}
 use mathlib.Core.Bool.{Bool, true, false, _||_, or-comm, or-assoc, or-false}
 use mathlib.Core.List.{List, [], _∷_}
 use Prim.Native.Nat.{ℕ, _<_}
-use native.Mathlib.Decide.{ℕ-discrete, decLt}
-use native.Mathlib.Omega.{arith}
+use native.Mathlib.Decide.{ℕ-discrete}
 use borrow.Author.Tests.{eq-eqb, ne-eqb}
 use lib.Dec.{eqb, ltb}
-use lib.ListN.{set, replicate, length-replicate, getD-replicate, List·getD-eq-default}
+use lib.ListN.{set, replicate, length-replicate}
 use lib.Seq.{getD-set-same, getD-set-other}
 use Rattle.netlist.specs.declared.Source.{Source}
 use Rattle.netlist.specs.declared.Source.the-variants.{Constant, Input, Signal}
@@ -15,6 +14,7 @@ use Rattle.netlist.specs.declared.Gate.{Gate}
 use Rattle.netlist.specs.declared.Gate.the-variants.{Lut, ZeroOf, Select, Xor, Same, Stored}
 use Rattle.netlist.specs.Rule.{sourcesOf, signalsIn, readsOf, isInput, anySource, touchesInput, touchesTable}
 use Rattle.netlist.specs.Settle.{isMarked, anyMarked}
+use Rattle.netlist.proofs.Zeros.{zeros-at}
 use Rattle.walks.specs.Marked.{sourceReached, tableMarked, touchesMarked, gateReached}
 
 -- an "or" of what its two tests say
@@ -54,12 +54,8 @@ reached-by-sources inputs tables signals gate =
     ∙ or-last (anySource (sourceReached inputs []) (sourcesOf gate)) (anyMarked signals (signalsIn (sourcesOf gate))) (tableMarked tables gate)
 
 -- no mark is set among zeros
-no-mark : (m k : ℕ) → isMarked (replicate m 0) k ≡ false
-no-mark m k = go (decLt k m)
-  where
-    go : Dec (k < m) → isMarked (replicate m 0) k ≡ false
-    go (yes l) = ap (λ (v : ℕ). ltb 0 v) (getD-replicate m k 0 0 l)
-    go (no l) = ap (λ (v : ℕ). ltb 0 v) (List·getD-eq-default (replicate m 0) 0 (simp length-replicate (omega arith)))
+pub no-mark : (m k : ℕ) → isMarked (replicate m 0) k ≡ false
+no-mark m k = ap (λ (v : ℕ). ltb 0 v) (zeros-at m k)
 
 -- one is set among zeros
 one-mark : (m j : ℕ) → j < m → (k : ℕ) → isMarked (set (replicate m 0) j 1) k ≡ eqb k j

@@ -17,10 +17,10 @@ sourceReached inputs signals (Constant b) = false
 sourceReached inputs signals (Input j) = isMarked inputs j
 sourceReached inputs signals (Signal y) = isMarked signals y
 
--- one of the k sources from place i of a row of codes is reached, by a test of a source
-unfoldable pub anyReached : (Source → Bool) → List ℕ → ℕ → ℕ → Bool
-anyReached f codes i zero = false
-anyReached f codes i (suc k) = f (sourceOf (getD codes i 0)) || anyReached f codes (suc i) k
+-- one of the k sources from place i of a row of numbers is reached, by a test of a source
+unfoldable pub anyReached : ℕ → (Source → Bool) → List ℕ → ℕ → ℕ → Bool
+anyReached n f numbers i zero = false
+anyReached n f numbers i (suc k) = f (sourceOf n (getD numbers i 0)) || anyReached n f numbers (suc i) k
 
 -- the gate belongs to the contents of a marked table: "O6 and O5 of that table, signal 19 if it is A", also where it is 0
 abbrev pub tableMarked : List ℕ → Gate → Bool

@@ -1,20 +1,23 @@
 -- `evaluation::gate_value` meets its contract, test by test of the head. Assumes nothing.
-use mathlib.Core.Path.{_∙_, sym, ap, ap₂}
-use Prim.Native.Nat.{ℕ, _+_, _*_, _%_}
+use mathlib.Core.Path.{_≡_, _∙_, sym, ap, ap₂}
+use Prim.Native.Nat.{ℕ, _+_, _*_, _-_, _%_, _<_}
 use native.Mathlib.Omega.{arith}
-use lib.ListN.{getD}
-use Rattle.netlist.specs.Rule.{Env, env, bitAt}
+use lib.ListN.{length, getD}
+use Rattle.netlist.specs.Rule.{bitAt}
 use Rattle.netlist.specs.Table.{rowLength}
-use Rattle.evaluation.proofs.Gates.{rule-lut, rule-zero, rule-stored, rule-select, rule-xor, rule-same, choose-zero, choose-other}
+use Rattle.evaluation.proofs.Gates.{rule-lut, rule-zero, rule-select, rule-xor, rule-same, choose-by}
 use borrow.Author.Needs.{needs}
 use Rattle.evaluation.proofs.gate_value.Statement.{statement}
 use Rattle.evaluation.proofs.gate_value.Tie as tie
 
-abbrev start : tie.After-shared-slice-known6 → tie.Start
-start c = c .before .before .before .before .before .before
+abbrev start : tie.After-shared-slice-known4 → tie.Start
+start c = c .before .before .before .before
 
-abbrev on : tie.Start → Env
-on s = env (s .args .contents .now) (s .args .flops .now) (s .args .inputs .now)
+-- a source of the row is a wire
+is-wire : (s : tie.Start) (i : ℕ) → 0 < i → i < rowLength → getD (s .args .table .now) (rowLength * s .args .x + i) 0 < length (s .args .wires .now)
+is-wire s i a b =
+    let e : rowLength * s .args .x + 1 + (i - 1) ≡ rowLength * s .args .x + i = omega arith in
+    rw e at (s .pre .1 .0 (i - 1) (omega arith))
 
 mul-at : tie.Need-mul-at
 mul-at c = search needs
@@ -26,7 +29,7 @@ shared-slice-read-head : tie.Need-shared-slice-read-head
 shared-slice-read-head c = search needs
 
 cast-head : tie.Need-cast-head
-cast-head c = omega (arith, c .shared-slice-known6 .given (rowLength * start c .args .x))
+cast-head c = search needs
 
 mul-if1 : tie.Need-mul-if1
 mul-if1 c = search needs
@@ -41,131 +44,97 @@ contents-bit-requires : tie.Need-contents-bit-requires
 contents-bit-requires c κs = search needs
 
 returns : tie.Need-returns
-returns c =
-    let s = start (c .before .before .before) in
-    c .contents-bit .ensures ∙ ap (bitAt (getD (s .args .contents .now) (getD (s .args .table .now) (rowLength * s .args .x) 0) 0)) (c .before .number-on .ensures .0)
-    ∙ sym (rule-lut (on s) _ _ _ _ (c .before .before .if1 .taken))
+returns c flops =
+    let a = start (c .before .before .before) .args in
+    c .contents-bit .ensures ∙ ap (bitAt (getD (a .contents .now) (getD (a .table .now) (rowLength * a .x) 0) 0)) (c .before .number-on .ensures .0)
+    ∙ sym (rule-lut (a .contents .now) flops (a .wires .now) (a .table .now) (a .n) (a .x) (c .before .before .if1 .taken))
 
 mul-if2 : tie.Need-mul-if2
 mul-if2 c = search needs
 
 returns-2 : tie.Need-returns-2
-returns-2 c =
-    let s = start (c .before .before) in
-    sym (rule-zero (on s) _ _ _ _ (c .before .if1 .left) (c .if2 .taken))
+returns-2 c flops =
+    let a = start (c .before .before) .args in
+    sym (rule-zero (a .contents .now) flops (a .wires .now) (a .table .now) (a .n) (a .x) (c .before .if1 .left) (c .if2 .taken))
+
+add-wire : tie.Need-add-wire
+add-wire c = search needs
+
+mul-wire : tie.Need-mul-wire
+mul-wire c = search needs
+
+shared-slice-read-wire : tie.Need-shared-slice-read-wire
+shared-slice-read-wire c = search needs
+
+wire-requires : tie.Need-wire-requires
+wire-requires c κs = let s = start (c .before .before .before) in (is-wire s 1 (omega arith) (omega arith), s .pre .1 .1)
+
+add-wire-2 : tie.Need-add-wire-2
+add-wire-2 c = search needs
+
+mul-wire-2 : tie.Need-mul-wire-2
+mul-wire-2 c = search needs
+
+shared-slice-read-wire-2 : tie.Need-shared-slice-read-wire-2
+shared-slice-read-wire-2 c = search needs
+
+wire-requires-2 : tie.Need-wire-requires-2
+wire-requires-2 c κs = let s = start (c .before .before .before .before .before) in (is-wire s 2 (omega arith) (omega arith), s .pre .1 .1)
 
 mul-if3 : tie.Need-mul-if3
 mul-if3 c = search needs
 
-mul-stored-bit : tie.Need-mul-stored-bit
-mul-stored-bit c = search needs
+add-wire-3 : tie.Need-add-wire-3
+add-wire-3 c = search needs
 
-sub-stored-bit : tie.Need-sub-stored-bit
-sub-stored-bit c = search needs
+mul-wire-3 : tie.Need-mul-wire-3
+mul-wire-3 c = search needs
 
-stored-bit-requires : tie.Need-stored-bit-requires
-stored-bit-requires c κs = search needs
+shared-slice-read-wire-3 : tie.Need-shared-slice-read-wire-3
+shared-slice-read-wire-3 c = search needs
+
+wire-requires-3 : tie.Need-wire-requires-3
+wire-requires-3 c κs =
+    let s = start (c .before .before .before .before .before .before .before .before) in
+    (is-wire s 3 (omega arith) (omega arith), s .pre .1 .1)
+
+choose-requires : tie.Need-choose-requires
+choose-requires c κs = search needs
 
 returns-3 : tie.Need-returns-3
-returns-3 c =
-    let e = c .before .before in
-    let s = start (e .before .before) in
-    c .stored-bit .ensures ∙ sym (rule-stored (on s) _ _ _ _ (e .before .if1 .left) (e .if2 .left) (c .before .if3 .taken))
-
-add-code-value : tie.Need-add-code-value
-add-code-value c = search needs
-
-mul-code-value : tie.Need-mul-code-value
-mul-code-value c = search needs
-
-shared-slice-read-code-value : tie.Need-shared-slice-read-code-value
-shared-slice-read-code-value c = search needs
-
-code-value-requires : tie.Need-code-value-requires
-code-value-requires c κs = search needs
+returns-3 c flops =
+    let t = c .before .before .before in
+    let e = t .before .before .before .before .before in
+    let a = start (e .before .before) .args in
+    c .choose .ensures
+    ∙ choose-by (t .before .before .before .wire .ensures .0) (t .before .wire2 .ensures .0) (c .before .wire3 .ensures .0)
+    ∙ sym (rule-select (a .contents .now) flops (a .wires .now) (a .table .now) (a .n) (a .x) (e .before .if1 .left) (e .if2 .left) (t .if3 .taken))
 
 mul-if4 : tie.Need-mul-if4
 mul-if4 c = search needs
 
-add-code-value-2 : tie.Need-add-code-value-2
-add-code-value-2 c = search needs
-
-mul-code-value-2 : tie.Need-mul-code-value-2
-mul-code-value-2 c = search needs
-
-shared-slice-read-code-value-2 : tie.Need-shared-slice-read-code-value-2
-shared-slice-read-code-value-2 c = search needs
-
-code-value-requires-2 : tie.Need-code-value-requires-2
-code-value-requires-2 c κs = search needs
-
-returns-4 : tie.Need-returns-4
-returns-4 c =
-    let f = c .before .before .before .before in
-    let e = f .before .before in
-    let s = start (e .before .before .before) in
-    c .code-value2 .ensures .0
-    ∙ sym (choose-zero _ _ _ (sym (f .code-value .ensures .0) ∙ c .before .before .if5 .taken))
-    ∙ sym (rule-select (on s) _ _ _ _ (e .before .before .if1 .left) (e .before .if2 .left) (e .if3 .left) (c .before .before .before .if4 .taken))
-
-add-code-value-3 : tie.Need-add-code-value-3
-add-code-value-3 c = search needs
-
-mul-code-value-3 : tie.Need-mul-code-value-3
-mul-code-value-3 c = search needs
-
-shared-slice-read-code-value-3 : tie.Need-shared-slice-read-code-value-3
-shared-slice-read-code-value-3 c = search needs
-
-code-value-requires-3 : tie.Need-code-value-requires-3
-code-value-requires-3 c κs = search needs
-
-returns-5 : tie.Need-returns-5
-returns-5 c =
-    let f = c .before .before .before .before in
-    let e = f .before .before in
-    let s = start (e .before .before .before) in
-    c .code-value3 .ensures .0
-    ∙ sym (choose-other _ _ _ (λ z. c .before .before .if5 .left (f .code-value .ensures .0 ∙ z)))
-    ∙ sym (rule-select (on s) _ _ _ _ (e .before .before .if1 .left) (e .before .if2 .left) (e .if3 .left) (c .before .before .before .if4 .taken))
-
-mul-if6 : tie.Need-mul-if6
-mul-if6 c = search needs
-
-add-if6 : tie.Need-add-if6
-add-if6 c = search needs
-
-add-code-value-4 : tie.Need-add-code-value-4
-add-code-value-4 c = search needs
-
-mul-code-value-4 : tie.Need-mul-code-value-4
-mul-code-value-4 c = search needs
-
-shared-slice-read-code-value-4 : tie.Need-shared-slice-read-code-value-4
-shared-slice-read-code-value-4 c = search needs
-
-code-value-requires-4 : tie.Need-code-value-requires-4
-code-value-requires-4 c κs = search needs
+add-if4 : tie.Need-add-if4
+add-if4 c = search needs
 
 add-result : tie.Need-add-result
 add-result c = search needs
 
-returns-6 : tie.Need-returns-6
-returns-6 c =
+returns-4 : tie.Need-returns-4
+returns-4 c flops =
     let t = c .before .before in
-    let f = t .before .before in
-    let e = f .before .before in
-    let s = start (e .before .before .before) in
-    ap₂ (λ (a b : ℕ). (a + b) % 2) (f .code-value .ensures .0) (c .code-value4 .ensures .0)
-    ∙ sym (rule-xor (on s) _ _ _ _ (e .before .before .if1 .left) (e .before .if2 .left) (e .if3 .left) (t .before .if4 .left) (t .if6 .taken))
+    let e = t .before .before .before .before in
+    let a = start (e .before .before) .args in
+    ap₂ (λ (u v : ℕ). (u + v) % 2) (t .before .before .wire .ensures .0) (t .wire2 .ensures .0)
+    ∙ sym (rule-xor (a .contents .now) flops (a .wires .now) (a .table .now) (a .n) (a .x) (e .before .if1 .left) (e .if2 .left) (c .before .if3 .left) (c .if4 .taken))
 
-returns-7 : tie.Need-returns-7
-returns-7 c =
-    let f = c .before .before in
-    let e = f .before .before in
-    let s = start (e .before .before .before) in
-    f .code-value .ensures .0
-    ∙ sym (rule-same (on s) _ _ _ _ (e .before .before .if1 .left) (e .before .if2 .left) (e .if3 .left) (c .before .if4 .left) (c .if6 .left))
+returns-5 : tie.Need-returns-5
+returns-5 c flops =
+    let t = c .before .before in
+    let e = t .before .before .before .before in
+    let s = start (e .before .before) in
+    let a = s .args in
+    t .before .before .wire .ensures .0
+    ∙ sym (rule-same (a .contents .now) flops (a .wires .now) (a .table .now) (a .n) (a .x) (e .before .if1 .left) (e .if2 .left) (c .before .if3 .left) (c .if4 .left) (s .pre .0 .2))
 
 pub gate-value-spec : {M : Type 1} → statement M
 gate-value-spec =
@@ -182,32 +151,23 @@ gate-value-spec =
     returns
     mul-if2
     returns-2
+    add-wire
+    mul-wire
+    shared-slice-read-wire
+    wire-requires
+    add-wire-2
+    mul-wire-2
+    shared-slice-read-wire-2
+    wire-requires-2
     mul-if3
-    mul-stored-bit
-    sub-stored-bit
-    stored-bit-requires
+    add-wire-3
+    mul-wire-3
+    shared-slice-read-wire-3
+    wire-requires-3
+    choose-requires
     returns-3
-    add-code-value
-    mul-code-value
-    shared-slice-read-code-value
-    code-value-requires
     mul-if4
-    add-code-value-2
-    mul-code-value-2
-    shared-slice-read-code-value-2
-    code-value-requires-2
-    returns-4
-    add-code-value-3
-    mul-code-value-3
-    shared-slice-read-code-value-3
-    code-value-requires-3
-    returns-5
-    mul-if6
-    add-if6
-    add-code-value-4
-    mul-code-value-4
-    shared-slice-read-code-value-4
-    code-value-requires-4
+    add-if4
     add-result
-    returns-6
-    returns-7)
+    returns-4
+    returns-5)

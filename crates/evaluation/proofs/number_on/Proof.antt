@@ -7,44 +7,45 @@ use native.Mathlib.Omega.{arith}
 use borrow.Author.Needs.{needs}
 use lib.Dec.{lit<}
 use lib.Pow.{pow-mono}
-use Rattle.netlist.specs.Rule.{valueOf}
-use Rattle.evaluation.specs.Codes.{numberOn}
+use Rattle.evaluation.specs.Numbers.{numberOn}
 use Rattle.evaluation.proofs.Numbers.{number-more, small-more}
 use Rattle.evaluation.proofs.number_on.Statement.{statement}
 use Rattle.evaluation.proofs.number_on.Tie as tie
 
 abbrev Inv-loop : tie.InvT-loop
-Inv-loop codes i k inputs values number₀ j₀ number j =
-    (j ≤ k) × (number ≡ numberOn (valueOf inputs values) codes (i + j) (k - j)) × (number < 2 ^ (k - j))
+Inv-loop numbers i k wires number₀ j₀ number j =
+    (j ≤ k) × (number ≡ numberOn wires numbers (i + j) (k - j)) × (number < 2 ^ (k - j))
 
 abbrev μ-loop : tie.MeasureT-loop
-μ-loop codes i k inputs values number₀ j₀ number j = j
+μ-loop numbers i k wires number₀ j₀ number j = j
 
 loop-holds : tie.Need-loop-holds Inv-loop μ-loop
 unfolding numberOn
 loop-holds c =
-    let k = c .before .before .before .args .k in
+    let k = c .before .before .args .k in
     let none : k - k ≡ 0 = omega arith in
     (search needs, rw none, rw none (lit< tt))
 
 sub-j : tie.Need-sub-j Inv-loop μ-loop
 sub-j c = omega arith
 
-add-code-value : tie.Need-add-code-value Inv-loop μ-loop
-add-code-value c = omega arith
+add-wire : tie.Need-add-wire Inv-loop μ-loop
+add-wire c = omega arith
 
-mul-code-value : tie.Need-mul-code-value Inv-loop μ-loop
-mul-code-value c = omega arith
+mul-wire : tie.Need-mul-wire Inv-loop μ-loop
+mul-wire c = omega arith
 
-shared-slice-read-code-value : tie.Need-shared-slice-read-code-value Inv-loop μ-loop
-shared-slice-read-code-value c = omega arith
+shared-slice-read-wire : tie.Need-shared-slice-read-wire Inv-loop μ-loop
+shared-slice-read-wire c = omega arith
 
-code-value-requires : tie.Need-code-value-requires Inv-loop μ-loop
-code-value-requires c κs = search needs
+wire-requires : tie.Need-wire-requires Inv-loop μ-loop
+wire-requires c κs =
+    let b = c .before .before .before .before .before in
+    (b .pre .2 _ (omega arith), b .pre .3)
 
 -- fewer than 8 sources are counted, so there is room for one more
-room : (c : tie.After-code-value Inv-loop μ-loop) → c .before .before .before .loop .number < 2 ^ 7
-room c = lt-of-lt-of-le (c .before .before .before .loop .inv .2) (pow-mono {i = c .before .before .before .before .before .before .before .args .k - c .before .before .before .loop .j} {j = 7} (omega arith))
+room : (c : tie.After-wire Inv-loop μ-loop) → c .before .before .before .loop .number < 2 ^ 7
+room c = lt-of-lt-of-le (c .before .before .before .loop .inv .2) (pow-mono {i = c .before .before .before .before .before .before .args .k - c .before .before .before .loop .j} {j = 7} (omega arith))
 
 mul-number : tie.Need-mul-number Inv-loop μ-loop
 mul-number c = omega (arith, room c)
@@ -57,18 +58,17 @@ loop-less c = omega arith
 
 loop-again : tie.Need-loop-again Inv-loop μ-loop
 loop-again c =
-    let a = c .before .before .before .before .before .before .before .args in
+    let a = c .before .before .before .before .before .before .args in
     let l = c .before .before .before .loop in
-    let v = valueOf (a .inputs .now) (a .values .now) in
     let more : 0 < l .j = omega arith in (
       omega arith,
-      rw (number-more v (a .codes .now) (a .i) (l .j) (a .k) more (l .inv .0), c .code-value .ensures .0, l .inv .1),
-      small-more v (a .codes .now) (a .i) (l .j) (a .k) more (l .inv .0) (l .inv .2) (c .code-value .ensures .1),
+      rw (number-more (a .wires .now) (a .numbers .now) (a .i) (l .j) (a .k) more (l .inv .0), c .wire .ensures .0, l .inv .1),
+      small-more (a .wires .now) (a .numbers .now) (a .i) (l .j) (a .k) more (l .inv .0) (l .inv .2) (c .wire .ensures .1),
     )
 
 returns : tie.Need-returns Inv-loop μ-loop
 returns c =
-    let a = c .before .before .before .before .before .args in
+    let a = c .before .before .before .before .args in
     let l = c .before .loop in
     let place : a .i + l .j ≡ a .i = omega arith in
     let all : a .k - l .j ≡ a .k = omega arith in
@@ -82,10 +82,10 @@ number-on-spec =
     μ-loop
     loop-holds
     sub-j
-    add-code-value
-    mul-code-value
-    shared-slice-read-code-value
-    code-value-requires
+    add-wire
+    mul-wire
+    shared-slice-read-wire
+    wire-requires
     mul-number
     add-number
     loop-less

@@ -1,4 +1,4 @@
--- `walks::any_reached` meets its contract. The loop goes from the last code down: `found` says whether one from place j on is reached. The measure is
+-- `walks::any_reached` meets its contract. The loop goes from the last number down: `found` says whether one from place j on is reached. The measure is
 -- j. Assumes nothing.
 use mathlib.Core.Path.{_≡_}
 use Prim.Native.Nat.{_+_, _-_, _≤_, _<_}
@@ -10,10 +10,10 @@ use Rattle.walks.proofs.any_reached.Statement.{statement}
 use Rattle.walks.proofs.any_reached.Tie as tie
 
 abbrev Inv-loop : tie.InvT-loop
-Inv-loop codes i k changed marks found₀ j₀ found j = (j ≤ k) × (found ≡ anyReached (sourceReached changed marks) codes (i + j) (k - j))
+Inv-loop n numbers i k changed marks found₀ j₀ found j = (j ≤ k) × (found ≡ anyReached n (sourceReached changed marks) numbers (i + j) (k - j))
 
 abbrev μ-loop : tie.MeasureT-loop
-μ-loop codes i k changed marks found₀ j₀ found j = j
+μ-loop n numbers i k changed marks found₀ j₀ found j = j
 
 loop-holds : tie.Need-loop-holds Inv-loop μ-loop
 unfolding anyReached
@@ -25,17 +25,17 @@ loop-holds c =
 sub-j : tie.Need-sub-j Inv-loop μ-loop
 sub-j c = omega arith
 
-add-code-reached : tie.Need-add-code-reached Inv-loop μ-loop
-add-code-reached c = omega arith
+add-number-reached : tie.Need-add-number-reached Inv-loop μ-loop
+add-number-reached c = omega arith
 
-mul-code-reached : tie.Need-mul-code-reached Inv-loop μ-loop
-mul-code-reached c = omega arith
+mul-number-reached : tie.Need-mul-number-reached Inv-loop μ-loop
+mul-number-reached c = omega arith
 
-shared-slice-read-code-reached : tie.Need-shared-slice-read-code-reached Inv-loop μ-loop
-shared-slice-read-code-reached c = omega arith
+shared-slice-read-number-reached : tie.Need-shared-slice-read-number-reached Inv-loop μ-loop
+shared-slice-read-number-reached c = omega arith
 
-code-reached-requires : tie.Need-code-reached-requires Inv-loop μ-loop
-code-reached-requires c κs = search needs
+number-reached-requires : tie.Need-number-reached-requires Inv-loop μ-loop
+number-reached-requires c κs = search needs
 
 loop-less : tie.Need-loop-less Inv-loop μ-loop
 loop-less c = omega arith
@@ -45,7 +45,7 @@ loop-again c =
     let a = c .before .before .before .before .before .before .before .args in
     let l = c .before .before .before .loop in
     let more : 0 < l .j = omega arith in
-    (omega arith, rw (any-more (sourceReached (a .changed .now) (a .marks .now)) (a .codes .now) (a .i) (l .j) (a .k) more (l .inv .0), c .code-reached .ensures, l .inv .1))
+    (omega arith, rw (any-more (a .n) (sourceReached (a .changed .now) (a .marks .now)) (a .numbers .now) (a .i) (l .j) (a .k) more (l .inv .0), c .number-reached .ensures, l .inv .1))
 
 returns : tie.Need-returns Inv-loop μ-loop
 returns c =
@@ -63,10 +63,10 @@ any-reached-spec =
     μ-loop
     loop-holds
     sub-j
-    add-code-reached
-    mul-code-reached
-    shared-slice-read-code-reached
-    code-reached-requires
+    add-number-reached
+    mul-number-reached
+    shared-slice-read-number-reached
+    number-reached-requires
     loop-less
     loop-again
     returns)

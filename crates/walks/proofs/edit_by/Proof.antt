@@ -1,141 +1,78 @@
--- `walks::edit_by` meets its contract. The loop's invariant: `EditedTo` after i signals of the order. Assumes nothing.
-use Prim.Native.Nat.{_-_, _≤_, _<_}
-use mathlib.Core.Path.{_≡_, refl, sym, _∙_}
-use mathlib.Core.Logic.{⊎-elim}
+-- `walks::edit_by` meets its contract: the front of a local array has the wires. Assumes nothing.
+use mathlib.Core.Path.{_≡_, _∙_, sym}
+use Prim.Native.Nat.{ℕ, _≤_}
 use native.Mathlib.Omega.{arith}
 use borrow.Author.Needs.{needs}
-use lib.ListN.{length, getD, length-set, take}
-use Rattle.netlist.specs.Rule.{env}
-use Rattle.netlist.specs.Table.{signalLimit, signalCount, gateOf}
-use Rattle.netlist.specs.Invariant.{EditedTo}
-use Rattle.netlist.proofs.Editing.{edit-none, edit-reached, edit-passed, edit-all}
-use Rattle.walks.specs.Marked.{touchesMarked}
-use Rattle.walks.proofs.Place.{place-below}
+use lib.ListN.{length, getD, take}
+use Rattle.netlist.specs.Table.{wireCount, wireLimit}
+use Rattle.netlist.proofs.Zeros.{zeros, zeros-length, zeros-all}
+use Rattle.evaluation.specs.Numbers.{Bits}
+use Rattle.walks.proofs.Turns.{edited-by}
 use Rattle.walks.proofs.edit_by.Statement.{statement}
 use Rattle.walks.proofs.edit_by.Tie as tie
 
-abbrev Inv-loop : tie.InvT-loop
-Inv-loop net n order contents flops inputs values₀ changed edited table turns marks₀ i₀ values marks i =
-    (i ≤ length turns)
-    × (length values ≡ length values₀)
-    × (length marks ≡ signalLimit)
-    × EditedTo (gateOf table n) (env contents flops inputs) (λ x. touchesMarked changed edited (gateOf table n x)) turns values₀ i marks values
+-- the front of the local array
+front : (b : tie.Start) → let count = wireCount (b .args .n) (length (b .args .inputs .now)) in length (take count (zeros wireLimit)) ≡ count
+front b = zeros-length wireLimit _ (omega (arith, b .pre .0 .0 .sized .0, b .pre .1 .0))
 
-abbrev μ-loop : tie.MeasureT-loop
-μ-loop net n order contents flops inputs values₀ changed edited table turns marks₀ i₀ values marks i = length turns - i
+front-bits : (b : tie.Start) → Bits (take (wireCount (b .args .n) (length (b .args .inputs .now))) (zeros wireLimit))
+front-bits b c = rw (zeros-all wireLimit (wireCount (b .args .n) (length (b .args .inputs .now))) c) (omega arith)
 
-abbrev start : tie.In-loop Inv-loop μ-loop → tie.Start Inv-loop μ-loop
-start c = c .before .before .before .before .before .before .before .before .before .before .before .before
+mul-count : tie.Need-mul-count
+mul-count c = search needs
 
--- the turn is one of the netlist's, and so is its signal
-turn :
-    (c : tie.In-loop Inv-loop μ-loop)
-    → let N = signalCount (start c .args .n) in
-    (c .before .loop .i < N) × (getD (take N (start c .args .order .now)) (c .before .loop .i) 0 < N)
-turn c = place-below (start c .pre .ordered) (c .before .loop .i) (search needs)
+add-count : tie.Need-add-count
+add-count c = search needs
 
-mul-table : tie.Need-mul-table Inv-loop μ-loop
-mul-table c = search needs
+add-count-2 : tie.Need-add-count-2
+add-count-2 c = search needs
 
-slice-aggregate-table : tie.Need-slice-aggregate-table Inv-loop μ-loop
-slice-aggregate-table c = sym (c .before .before .before .before .before .before .before .before .before .pre .table .1)
+array-borrow-prefix-room : tie.Need-array-borrow-prefix-room
+array-borrow-prefix-room c = search needs
 
-mul-turns : tie.Need-mul-turns Inv-loop μ-loop
-mul-turns c = search needs
+slice-aggregate-wires : tie.Need-slice-aggregate-wires
+slice-aggregate-wires c = sym (front (c .before .before .before .before .before .before .before .before))
 
-slice-aggregate-turns : tie.Need-slice-aggregate-turns Inv-loop μ-loop
-slice-aggregate-turns c = sym (c .before .before .before .before .before .before .before .before .before .before .pre .ordered .size)
+lay-inputs-requires : tie.Need-lay-inputs-requires
+lay-inputs-requires c κs =
+    let b = c .before .before .before .before .before .before .before .before .before in
+    ((b .pre .0 .0 .sized .0, front b), (b .pre .1 .1, front-bits b))
 
-loop-holds : tie.Need-loop-holds Inv-loop μ-loop
-loop-holds c = (search needs, refl, search needs, edit-none _ (c .before .before .before .before .before .before .before .before .before .before .pre .ordered) _ _ _ _)
+lay-values-requires : tie.Need-lay-values-requires
+lay-values-requires c κs = search needs
 
-mul-x : tie.Need-mul-x Inv-loop μ-loop
-mul-x c = search needs
+edit-wires-requires : tie.Need-edit-wires-requires
+edit-wires-requires c κs = search needs
 
-shared-slice-read-x : tie.Need-shared-slice-read-x Inv-loop μ-loop
-shared-slice-read-x c = search needs
+read-values-requires : tie.Need-read-values-requires
+read-values-requires c κs =
+    let edit = c .before .before .before .before in
+    let b = edit .before .before .before .before .before .before .before .before .before .before .before .before .before .before .before .before .before .before .before in
+    (b .pre .0 .0 .sized .0, omega (arith, edit .edit-wires .ensures .still .wires .size), b .pre .0 .1)
 
-cast-x : tie.Need-cast-x Inv-loop μ-loop
-cast-x c = omega (arith, turn (c .before))
-
-slice-aggregate-gate-reached : tie.Need-slice-aggregate-gate-reached Inv-loop μ-loop
-slice-aggregate-gate-reached c = search needs
-
-gate-reached-requires : tie.Need-gate-reached-requires Inv-loop μ-loop
-gate-reached-requires c κs = let k = c .before .before in (start k .pre .table, turn k .1)
-
-gate-value-requires : tie.Need-gate-value-requires Inv-loop μ-loop
-gate-value-requires c κs = let k = c .before .before .before .before .before in (start k .pre .table, turn k .1)
-
-array-write-marks : tie.Need-array-write-marks Inv-loop μ-loop
-array-write-marks c = omega (arith, turn (c .before .before .before .before .before .before))
-
-slice-write-values : tie.Need-slice-write-values Inv-loop μ-loop
-slice-write-values c = omega (arith, turn (c .before .before .before .before .before .before))
-
-array-write-marks-2 : tie.Need-array-write-marks-2 Inv-loop μ-loop
-array-write-marks-2 c = omega (arith, turn (c .before .before .before .before))
-
-add-i : tie.Need-add-i Inv-loop μ-loop
-add-i c = search needs
-
-loop-less : tie.Need-loop-less Inv-loop μ-loop
-loop-less c = search needs
-
-loop-again : tie.Need-loop-again Inv-loop μ-loop
-loop-again c =
-    let k : tie.In-loop Inv-loop μ-loop = c .before .before .before .before in
-    let l = k .before .loop in
-    let o = start k .pre .ordered in
-    let r = c .before .gate-reached .ensures in
-    ⊎-elim
-    (λ w. (
-      search needs,
-      rw (w .3) (simp length-set (l .inv .1)),
-      rw (w .4) (simp length-set (l .inv .2)),
-      rw (w .3, w .4, w .2 .ensures)
-          (edit-reached _ o _ _ _ (l .i) (turn k .0) (l .marks) (l .values) (l .inv .3) (omega arith) (omega arith) (sym r ∙ w .0 .taken)),
-    ))
-    (λ w. (
-      search needs,
-      rw (w .1) (l .inv .1),
-      rw (w .2) (simp length-set (l .inv .2)),
-      rw (w .1, w .2)
-          (edit-passed _ o _ _ _ (l .i) (turn k .0) (l .marks) (l .values) (l .inv .3) (omega arith) (omega arith) (sym r ∙ w .0 .left)),
-    ))
-    (c .if1 .came)
-
-same-length : tie.Need-same-length Inv-loop μ-loop
+same-length : tie.Need-same-length
 same-length c = search needs
 
-returns : tie.Need-returns Inv-loop μ-loop
+returns : tie.Need-returns
 returns c =
-    let o = c .before .before .before .before .before .before .before .before .before .before .before .before .pre .ordered in
-    let l = c .before .loop in
-    edit-all _ o _ _ _ (l .i) (omega (arith, o .size)) (l .marks) (l .values) (l .inv .1) (l .inv .3)
+    let read = c .before .before .before in
+    let edit = read .before .before .before .before .before in
+    let values = edit .before .before .before .before in
+    let laid = values .before .before .before .before .before in
+    edited-by (edit .edit-wires .ensures) (values .lay-values .ensures .0 .inputs ∙ laid .lay-inputs .ensures .1) (values .lay-values .ensures .1) (read .read-values .ensures)
 
 pub edit-by-spec : {M : Type 1} → statement M
 edit-by-spec =
     tie.close
     (tie.spec
-    Inv-loop
-    μ-loop
-    mul-table
-    slice-aggregate-table
-    mul-turns
-    slice-aggregate-turns
-    loop-holds
-    mul-x
-    shared-slice-read-x
-    cast-x
-    slice-aggregate-gate-reached
-    gate-reached-requires
-    gate-value-requires
-    array-write-marks
-    slice-write-values
-    array-write-marks-2
-    add-i
-    loop-less
-    loop-again
+    mul-count
+    add-count
+    add-count-2
+    array-borrow-prefix-room
+    slice-aggregate-wires
+    lay-inputs-requires
+    lay-values-requires
+    edit-wires-requires
+    read-values-requires
     same-length
     returns)

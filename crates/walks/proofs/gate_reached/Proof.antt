@@ -59,29 +59,22 @@ returns-2 c =
 mul-if3 : tie.Need-mul-if3
 mul-if3 c = search needs
 
-returns-3 : tie.Need-returns-3
-returns-3 c =
-    reached-stored _ _ _ _ _ _ (c .before .before .if1 .left) (c .before .if2 .left) (c .if3 .taken)
-
-mul-if4 : tie.Need-mul-if4
-mul-if4 c = search needs
-
 add-any-reached-2 : tie.Need-add-any-reached-2
 add-any-reached-2 c = search needs
 
 any-reached-requires-2 : tie.Need-any-reached-requires-2
 any-reached-requires-2 c κs = search needs
 
-returns-4 : tie.Need-returns-4
-returns-4 c =
+returns-3 : tie.Need-returns-3
+returns-3 c =
     let e = c .before .before in
-    c .any-reached2 .ensures ∙ reached-select _ _ _ _ _ _ (e .before .before .if1 .left) (e .before .if2 .left) (e .if3 .left) (c .before .if4 .taken)
+    c .any-reached2 .ensures ∙ reached-select _ _ _ _ _ _ (e .before .if1 .left) (e .if2 .left) (c .before .if3 .taken)
 
-mul-if5 : tie.Need-mul-if5
-mul-if5 c = search needs
+mul-if4 : tie.Need-mul-if4
+mul-if4 c = search needs
 
-add-if5 : tie.Need-add-if5
-add-if5 c = search needs
+add-if4 : tie.Need-add-if4
+add-if4 c = search needs
 
 add-any-reached-3 : tie.Need-add-any-reached-3
 add-any-reached-3 c = search needs
@@ -89,28 +82,42 @@ add-any-reached-3 c = search needs
 any-reached-requires-3 : tie.Need-any-reached-requires-3
 any-reached-requires-3 c κs = search needs
 
+returns-4 : tie.Need-returns-4
+returns-4 c =
+    let t = c .before .before in
+    let e = t .before in
+    c .any-reached3 .ensures ∙ reached-xor _ _ _ _ _ _ (e .before .if1 .left) (e .if2 .left) (t .if3 .left) (c .before .if4 .taken)
+
+mul-if5 : tie.Need-mul-if5
+mul-if5 c = search needs
+
+add-if5 : tie.Need-add-if5
+add-if5 c = search needs
+
+add-number-reached : tie.Need-add-number-reached
+add-number-reached c = search needs
+
+mul-number-reached : tie.Need-mul-number-reached
+mul-number-reached c = search needs
+
+shared-slice-read-number-reached : tie.Need-shared-slice-read-number-reached
+shared-slice-read-number-reached c = search needs
+
+number-reached-requires : tie.Need-number-reached-requires
+number-reached-requires c κs = search needs
+
 returns-5 : tie.Need-returns-5
 returns-5 c =
-    let e = c .before .before .before in
-    c .any-reached3 .ensures ∙ reached-xor _ _ _ _ _ _ (e .before .before .if1 .left) (e .before .if2 .left) (e .if3 .left) (c .before .before .if4 .left) (c .before .if5 .taken)
-
-add-code-reached : tie.Need-add-code-reached
-add-code-reached c = search needs
-
-mul-code-reached : tie.Need-mul-code-reached
-mul-code-reached c = search needs
-
-shared-slice-read-code-reached : tie.Need-shared-slice-read-code-reached
-shared-slice-read-code-reached c = search needs
-
-code-reached-requires : tie.Need-code-reached-requires
-code-reached-requires c κs = search needs
+    let f = c .before .before .before in
+    let e = f .before .before in
+    c .number-reached .ensures
+    ∙ reached-same _ _ _ _ _ _ (e .before .if1 .left) (e .if2 .left) (f .before .if3 .left) (f .if4 .left) (c .before .before .if5 .taken)
 
 returns-6 : tie.Need-returns-6
 returns-6 c =
-    let f = c .before .before in
+    let f = c .before in
     let e = f .before .before in
-    c .code-reached .ensures ∙ reached-same _ _ _ _ _ _ (e .before .before .if1 .left) (e .before .if2 .left) (e .if3 .left) (f .before .if4 .left) (f .if5 .left)
+    reached-stored _ _ _ _ _ _ (e .before .if1 .left) (e .if2 .left) (f .before .if3 .left) (f .if4 .left) (c .if5 .left)
 
 pub gate-reached-spec : {M : Type 1} → statement M
 gate-reached-spec =
@@ -131,18 +138,19 @@ gate-reached-spec =
     is-marked-requires-2
     returns-2
     mul-if3
-    returns-3
-    mul-if4
     add-any-reached-2
     any-reached-requires-2
+    returns-3
+    mul-if4
+    add-if4
+    add-any-reached-3
+    any-reached-requires-3
     returns-4
     mul-if5
     add-if5
-    add-any-reached-3
-    any-reached-requires-3
+    add-number-reached
+    mul-number-reached
+    shared-slice-read-number-reached
+    number-reached-requires
     returns-5
-    add-code-reached
-    mul-code-reached
-    shared-slice-read-code-reached
-    code-reached-requires
     returns-6)
