@@ -1,16 +1,17 @@
-// One clock edge of a slice, from its plain numbers: what it does to the slice's flip-flop byte and contents words.
+// One clock edge, from the plain numbers of the slices: what it does to their flip-flop bytes and contents words. The numbers of sources are wires,
+// on which the table settled before the edge stands.
 ghost use mathlib.Core.Path.{_≡_};
 ghost use Prim.Native.Nat.{_+_, _*_, _<_, _≤_};
 ghost use lib.ListN.{length, getD, set};
 ghost use Rattle.lent.specs.Lent.{was, left};
 ghost use Rattle.netlist.specs.Rule.{bitAt};
-ghost use Rattle.evaluation.specs.Environment.{valueWas};
 ghost use Rattle.series7.specs.Edge.{withBit, shifted};
-ghost use Rattle.clocknumbers.specs.Numbers.{edgeLength};
-ghost use Rattle.clockedge.specs.Moves.{flopsBy, wordBy};
+ghost use Rattle.slicefile.specs.Format.{sliceLimit};
+ghost use Rattle.clockedge.specs.Moves.{EdgeFits, EdgesFit, flopsBy, wordBy, wordsBy, bytesBy};
 ghost use Rattle.clockedge.specs.Moved.{Moved};
 use clocknumbers::ADDRESS;
 use clocknumbers::DATA;
+use clocknumbers::EDGE_LENGTH;
 use clocknumbers::ENABLE;
 use clocknumbers::FLOPS;
 use clocknumbers::KINDS;
@@ -19,17 +20,17 @@ use clocknumbers::VALUES;
 use clocknumbers::WRITE;
 
 // The flip-flop byte of a slice after the edge.
-pub fn next_flops(edge: &[u16], inputs: &[u8], values: &[u8], old: u8) -> u8
-    requires { ⌜ length (now edge) ≡ edgeLength ⌝ }
-    ensures { λ r. ⌜ r ≡ flopsBy (valueWas inputs values) (was edge) old ⌝ }
+fn next_flops(edge: &[u16], wires: &[u8], old: u8) -> u8
+    requires { ⌜ EdgeFits (now wires) (now edge) ⌝ }
+    ensures { λ r. ⌜ r ≡ flopsBy (was wires) (was edge) old ⌝ }
 {
-    let reset = evaluation::code_value(edge[RESET], inputs, values);
+    let reset = evaluation::wire(wires, edge[RESET]);
     if reset == 1 {
         return (edge[VALUES] % 256) as u8;
     }
-    let enable = evaluation::code_value(edge[ENABLE], inputs, values);
+    let enable = evaluation::wire(wires, edge[ENABLE]);
     if enable == 1 {
-        return evaluation::number_on(edge, FLOPS, 8, inputs, values);
+        return evaluation::number_on(edge, FLOPS, 8, wires);
     }
     old
 }
@@ -59,11 +60,11 @@ fn bit_31(word: u64) -> u8
 }
 
 // Letter l's word after the edge; `next` is the next letter's word before it.
-pub fn next_word(edge: &[u16], l: usize, inputs: &[u8], values: &[u8], old: u64, next: u64) -> u64
-    requires { ⌜ (length (now edge) ≡ edgeLength) × (l < 4) ⌝ }
-    ensures { λ r. ⌜ r ≡ wordBy (valueWas inputs values) (was edge) l old next ⌝ }
+fn next_word(edge: &[u16], l: usize, wires: &[u8], old: u64, next: u64) -> u64
+    requires { ⌜ EdgeFits (now wires) (now edge) × (l < 4) ⌝ }
+    ensures { λ r. ⌜ r ≡ wordBy (was wires) (was edge) l old next ⌝ }
 {
-    let enable = evaluation::code_value(edge[WRITE], inputs, values);
+    let enable = evaluation::wire(wires, edge[WRITE]);
     if enable != 1 {
         return old;
     }
@@ -71,9 +72,9 @@ pub fn next_word(edge: &[u16], l: usize, inputs: &[u8], values: &[u8], old: u64,
     if kind == 0 {
         return old;
     }
-    let bit = evaluation::code_value(edge[DATA + l], inputs, values);
+    let bit = evaluation::wire(wires, edge[DATA + l]);
     if kind == 1 {
-        let address = evaluation::number_on(edge, ADDRESS, 6, inputs, values);
+        let address = evaluation::number_on(edge, ADDRESS, 6, wires);
         return with_bit(old, address, bit);
     }
     if kind == 2 {
@@ -89,34 +90,54 @@ fn word_at(contents: &[u64], i: usize) -> u64
 }
 
 // Moves the words of slice s, ascending, so that each letter still sees the next one's word before the edge.
-fn move_words(edge: &[u16], s: usize, inputs: &[u8], values: &[u8], contents: &mut [u64])
-    requires { ⌜ (length (now edge) ≡ edgeLength) × (4 * s + 4 ≤ length (now contents)) ⌝ }
-    ensures { λ _. ⌜ Moved (valueWas inputs values) (was edge) s 4 (was contents) (left contents) ⌝ }
+fn move_words(edge: &[u16], s: usize, wires: &[u8], contents: &mut [u64])
+    requires { ⌜ EdgeFits (now wires) (now edge) × (4 * s + 4 ≤ length (now contents)) ⌝ }
+    ensures { λ _. ⌜ Moved (was wires) (was edge) s 4 (was contents) (left contents) ⌝ }
 {
     let mut l = 0;
     while l < 4 {
         let at = 4 * s + l;
         let next = word_at(contents, at + 1);
-        let word = next_word(edge, l, inputs, values, contents[at], next);
+        let word = next_word(edge, l, wires, contents[at], next);
         contents[at] = word;
         l += 1;
     }
 }
 
 // Moves slice s: its contents words and its flip-flop byte.
-pub fn move_slice(
+fn move_slice(
     edge: &[u16],
     s: usize,
-    inputs: &[u8],
-    values: &[u8],
+    wires: &[u8],
     contents: &mut [u64],
     flops: &mut [u8],
 )
-    requires { ⌜ (length (now edge) ≡ edgeLength) × (4 * s + 4 ≤ length (now contents)) × (s < length (now flops)) ⌝ }
-    ensures { λ _. ⌜ Moved (valueWas inputs values) (was edge) s 4 (was contents) (left contents) ⌝ }
-    ensures { λ _. ⌜ left flops ≡ set (was flops) s (flopsBy (valueWas inputs values) (was edge) (getD (was flops) s 0)) ⌝ }
+    requires { ⌜ EdgeFits (now wires) (now edge) × (4 * s + 4 ≤ length (now contents)) × (s < length (now flops)) ⌝ }
+    ensures { λ _. ⌜ Moved (was wires) (was edge) s 4 (was contents) (left contents) ⌝ }
+    ensures { λ _. ⌜ left flops ≡ set (was flops) s (flopsBy (was wires) (was edge) (getD (was flops) s 0)) ⌝ }
 {
-    move_words(edge, s, inputs, values, contents);
-    let byte = next_flops(edge, inputs, values, flops[s]);
+    move_words(edge, s, wires, contents);
+    let byte = next_flops(edge, wires, flops[s]);
     flops[s] = byte;
+}
+
+// Moves the state of n slices over the clock edge. All move together, from the table on the wires.
+pub fn move_all(
+    edges: &[u16],
+    n: usize,
+    wires: &[u8],
+    contents: &mut [u64],
+    flops: &mut [u8],
+)
+    requires { ⌜ (n ≤ sliceLimit) × EdgesFit n (now wires) (now edges) ⌝ }
+    requires { ⌜ (length (now contents) ≡ 4 * n) × (length (now flops) ≡ n) ⌝ }
+    ensures { λ _. ⌜ left contents ≡ wordsBy (was wires) (was edges) n (was contents) ⌝ }
+    ensures { λ _. ⌜ left flops ≡ bytesBy (was wires) (was edges) n (was flops) ⌝ }
+{
+    let mut s = 0;
+    while s < n {
+        let at = EDGE_LENGTH * s;
+        move_slice(&edges[at..at + EDGE_LENGTH], s, wires, contents, flops);
+        s += 1;
+    }
 }

@@ -2,3 +2,4 @@ pub mod Tests
 pub mod Words
 pub mod Tabulate
 pub mod DriverLaws
+pub mod Filling
