@@ -6,10 +6,11 @@ use mathlib.Core.Bool.{true, false, cond}
 use mathlib.Core.List.{List, _∷_}
 use lib.Dec.{ltb, eqb}
 use Rattle.netlist.specs.Rule.{valueOf, signalsIn, isInput}
-use Rattle.netlist.specs.Table.{sliceSignals}
+use Rattle.netlist.specs.Table.{sliceSignals, codeOf}
 use Rattle.netlist.specs.declared.Source.{Source}
 use Rattle.netlist.specs.declared.Source.the-variants.{Constant, Input, Signal}
-use Rattle.slicefile.specs.Format.{pinCode}
+use Rattle.slicefile.specs.Lists.{tabulate}
+use Rattle.slicefile.specs.Format.{pinCount, pinCode}
 use Rattle.slicefile.specs.Driver.{driverOf}
 use Rattle.slicefile.specs.declared.Driver.{Driver}
 use Rattle.slicefile.specs.declared.Driver.the-variants as driver
@@ -42,6 +43,10 @@ decodedSource Missing = Constant false
 
 unfoldable pub pinSource : ℕ → ℕ → List ℕ → ℕ → Source
 pinSource n m body p = decodedSource (driverOf (pinCode body p) n m)
+
+-- the numbers of a slice's pins in the gate table
+unfoldable pub pinNumbers : ℕ → ℕ → List ℕ → List ℕ
+pinNumbers n m body = tabulate 0 pinCount (λ p. codeOf n (pinSource n m body p))
 
 -- "it reads as 1 and nothing depends on anything through it": the bit is 1 over any inputs and values, and among the sources of a gate it is
 -- no signal and no outside input
