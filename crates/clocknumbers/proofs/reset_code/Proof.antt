@@ -1,23 +1,25 @@
--- `clocknumbers::reset_code` meets its contract. Assumes nothing.
-use borrow.Author.Tests.{eq-eqb, ne-eqb}
 use borrow.Author.Needs.{needs}
-use Rattle.clocknumbers.specs.Numbers.{resetCode}
 use Rattle.clocknumbers.proofs.reset_code.Statement.{statement}
 use Rattle.clocknumbers.proofs.reset_code.Tie as tie
+use Rattle.clocknumbers.proofs.reset_code.Reads as reads
+use Rattle.clocknumbers.proofs.reset_code.Lts as lts
 
+-- src/lib.rt:54:8
 shared-slice-read-if1 : tie.Need-shared-slice-read-if1
 shared-slice-read-if1 c = search needs
 
-pin-code-requires : tie.Need-pin-code-requires
-pin-code-requires c κs = search needs
+-- src/lib.rt:55:16
+element-copy-out-result : tie.Need-element-copy-out-result
+element-copy-out-result c = search needs
 
+-- src/lib.rt:55:9
 returns : tie.Need-returns
-unfolding resetCode
-returns c = search (needs, eq-eqb, c .pin-code .ensures)
+returns c = ?
 
+-- src/lib.rt:50:1
 returns-2 : tie.Need-returns-2
-unfolding resetCode
-returns-2 c = search (needs, ne-eqb)
+returns-2 c = ?
 
 pub reset-code-spec : {M : Type 1} → statement M
-reset-code-spec = tie.close (tie.spec shared-slice-read-if1 pin-code-requires returns returns-2)
+reset-code-spec =
+    tie.close (tie.spec shared-slice-read-if1 element-copy-out-result returns returns-2)

@@ -1,35 +1,45 @@
--- `clocknumbers::second_code` meets its contract. Assumes nothing.
-use borrow.Author.Tests.{eq-eqb, ne-eqb}
 use borrow.Author.Needs.{needs}
-use Rattle.series7.specs.Edge.{secondSource}
 use Rattle.clocknumbers.proofs.second_code.Statement.{statement}
 use Rattle.clocknumbers.proofs.second_code.Tie as tie
+use Rattle.clocknumbers.proofs.second_code.Reads as reads
+use Rattle.clocknumbers.proofs.second_code.Lts as lts
+use Rattle.sources.proofs.own_number.Reads as own-number-reads
 
+-- src/lib.rt:103:13
 add-if1 : tie.Need-add-if1
 add-if1 c = search needs
 
+-- src/lib.rt:103:8
 shared-slice-read-if1 : tie.Need-shared-slice-read-if1
 shared-slice-read-if1 c = search needs
 
-add-own-code : tie.Need-add-own-code
-add-own-code c = search needs
+-- src/lib.rt:104:39
+add-own-number : tie.Need-add-own-number
+add-own-number c = search needs
 
-own-code-requires : tie.Need-own-code-requires
-own-code-requires c κs = search needs
+-- src/lib.rt:104:9
+own-number-requires : tie.Need-own-number-requires
+own-number-requires c κs = search needs
 
+-- src/lib.rt:104:9
 returns : tie.Need-returns
-unfolding secondSource
-returns c = search (needs, eq-eqb, c .own-code .ensures)
+returns c = ?
 
-add-pin-code : tie.Need-add-pin-code
-add-pin-code c = search needs
+-- src/lib.rt:106:10
+add-result : tie.Need-add-result
+add-result c = search needs
 
-pin-code-requires : tie.Need-pin-code-requires
-pin-code-requires c κs = search needs
+-- src/lib.rt:106:5
+mul-result : tie.Need-mul-result
+mul-result c = search needs
 
+-- src/lib.rt:106:5
+element-copy-out-result : tie.Need-element-copy-out-result
+element-copy-out-result c = search needs
+
+-- src/lib.rt:99:1
 returns-2 : tie.Need-returns-2
-unfolding secondSource
-returns-2 c = search (needs, ne-eqb, c .pin-code .ensures)
+returns-2 c = ?
 
 pub second-code-spec : {M : Type 1} → statement M
 second-code-spec =
@@ -37,9 +47,10 @@ second-code-spec =
     (tie.spec
     add-if1
     shared-slice-read-if1
-    add-own-code
-    own-code-requires
+    add-own-number
+    own-number-requires
     returns
-    add-pin-code
-    pin-code-requires
+    add-result
+    mul-result
+    element-copy-out-result
     returns-2)

@@ -1,16 +1,16 @@
--- `series7::wide_gate` meets its contract. Assumes nothing.
+-- `series7::wide_row` meets its contract. Assumes nothing.
 use borrow.Author.Tests.{eq-eqb, ne-eqb}
 use Rattle.series7.specs.Signals.{wideGate}
 use borrow.Author.Needs.{needs}
-use Rattle.series7.proofs.wide_gate.Statement.{statement}
-use Rattle.series7.proofs.wide_gate.Tie as tie
+use Rattle.series7.proofs.wide_row.Statement.{statement}
+use Rattle.series7.proofs.wide_row.Tie as tie
 
 by-bypass-requires : tie.Need-by-bypass-requires
 by-bypass-requires c κs = search needs
 
 returns : tie.Need-returns
 unfolding wideGate
-returns c = search (needs, eq-eqb, c .by-bypass .ensures)
+returns c = search (needs, eq-eqb, ne-eqb, c .by-bypass .ensures)
 
 by-bypass-requires-2 : tie.Need-by-bypass-requires-2
 by-bypass-requires-2 c κs = search needs
@@ -26,21 +26,15 @@ returns-3 : tie.Need-returns-3
 unfolding wideGate
 returns-3 c = search (needs, eq-eqb, ne-eqb, c .by-bypass3 .ensures)
 
-shared-slice-read-mc31-gate : tie.Need-shared-slice-read-mc31-gate
-shared-slice-read-mc31-gate c = search needs
-
-mul-mc31-gate : tie.Need-mul-mc31-gate
-mul-mc31-gate c = search needs
-
-mc31-gate-requires : tie.Need-mc31-gate-requires
-mc31-gate-requires c κs = search needs
+mc31-row-requires : tie.Need-mc31-row-requires
+mc31-row-requires c κs = search needs
 
 returns-4 : tie.Need-returns-4
 unfolding wideGate
-returns-4 c = search (needs, ne-eqb, c .mc31-gate .ensures)
+returns-4 c = search (needs, eq-eqb, ne-eqb, c .mc31-row .ensures)
 
-pub wide-gate-spec : {M : Type 1} → statement M
-wide-gate-spec =
+pub wide-row-spec : {M : Type 1} → statement M
+wide-row-spec =
     tie.close
     (tie.spec
     by-bypass-requires
@@ -49,7 +43,5 @@ wide-gate-spec =
     returns-2
     by-bypass-requires-3
     returns-3
-    shared-slice-read-mc31-gate
-    mul-mc31-gate
-    mc31-gate-requires
+    mc31-row-requires
     returns-4)
