@@ -1,37 +1,43 @@
+-- `clocknumbers::data_code` meets its contract. Assumes nothing.
+use mathlib.Core.Path.{_∙_, sym}
+use native.Mathlib.Omega.{arith}
+use borrow.Author.Tests.{eq-eqb, ne-eqb}
 use borrow.Author.Needs.{needs}
+use Rattle.slicefile.specs.Format.{bypassPin}
+use Rattle.sources.proofs.PinLaws.{pin-at}
+use Rattle.clocknumbers.specs.Numbers.{writeCode}
 use Rattle.clocknumbers.proofs.data_code.Statement.{statement}
 use Rattle.clocknumbers.proofs.data_code.Tie as tie
-use Rattle.clocknumbers.proofs.data_code.Reads as reads
-use Rattle.clocknumbers.proofs.data_code.Lts as lts
-use Rattle.clocknumbers.proofs.table_kind.Reads as table-kind-reads
 
--- src/lib.rt:143:9
 table-kind-requires : tie.Need-table-kind-requires
 table-kind-requires c κs = search needs
 
--- src/lib.rt:145:9
 returns : tie.Need-returns
-returns c = ?
+unfolding writeCode
+returns c = rw (eq-eqb _ 0 (sym (c .before .table-kind .ensures) ∙ c .if1 .taken))
 
--- src/lib.rt:148:9
 returns-2 : tie.Need-returns-2
-returns-2 c = ?
+unfolding writeCode
+returns-2 c =
+    let kind = c .before .before .table-kind .ensures in
+    rw (ne-eqb _ 0 (λ e. c .before .if1 .left (kind ∙ e)), eq-eqb _ 3 (sym kind ∙ c .if2 .taken))
 
--- src/lib.rt:150:10
 add-result : tie.Need-add-result
 add-result c = search needs
 
--- src/lib.rt:150:5
 mul-result : tie.Need-mul-result
 mul-result c = search needs
 
--- src/lib.rt:150:5
 element-copy-out-result : tie.Need-element-copy-out-result
 element-copy-out-result c = search needs
 
--- src/lib.rt:139:1
 returns-3 : tie.Need-returns-3
-returns-3 c = ?
+unfolding writeCode
+returns-3 c =
+    let s = c .before .before .before .before .before in
+    let a = s .args in
+    let kind = c .before .before .before .table-kind .ensures in
+    rw (ne-eqb _ 0 (λ e. c .before .before .if1 .left (kind ∙ e)), ne-eqb _ 3 (λ e. c .before .if2 .left (kind ∙ e))) (pin-at (a .n) (a .m) (a .body .now) (s .pre .0 .3) (bypassPin (a .l)) (omega arith))
 
 pub data-code-spec : {M : Type 1} → statement M
 data-code-spec =

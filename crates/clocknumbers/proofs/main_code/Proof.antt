@@ -1,94 +1,102 @@
+-- `clocknumbers::main_code` meets its contract. Assumes nothing.
+use mathlib.Core.Bool.{false}
+use mathlib.Core.List.{List, [], _∷_}
+use mathlib.Core.Path.{_≡_, _∙_, sym, ap}
+use Prim.Native.Nat.{ℕ, _+_, _*_, _≤_}
+use native.Mathlib.Omega.{arith}
 use borrow.Author.Needs.{needs}
+use lib.ListN.{List·getD-eq-default}
+use Rattle.netlist.specs.Table.{sliceSignals, signalWire, codeOf}
+use Rattle.netlist.specs.declared.Source.the-variants.{Constant}
+use Rattle.slicefile.specs.Format.{mainInput, bypassPin}
+use Rattle.sources.specs.Sources.{own, pinSource, wideSignal}
+use Rattle.sources.proofs.PinLaws.{pin-at}
+use Rattle.series7.specs.Edge.{mainSource}
 use Rattle.clocknumbers.proofs.main_code.Statement.{statement}
 use Rattle.clocknumbers.proofs.main_code.Tie as tie
-use Rattle.clocknumbers.proofs.main_code.Reads as reads
-use Rattle.clocknumbers.proofs.main_code.Lts as lts
-use Rattle.sources.proofs.own_number.Reads as own-number-reads
-use Rattle.sources.proofs.wide_signal.Reads as wide-signal-reads
 
--- src/lib.rt:76:23
+-- a choice past the list takes nothing
+past : (n m s : ℕ) (body : List ℕ) (l : ℕ) → 6 ≤ mainInput body l → mainSource n m s body l ≡ Constant false
+unfolding mainSource
+past n m s body l h =
+    List·getD-eq-default
+    (own s l ∷ own s (4 + l) ∷ own s (12 + l) ∷ own s (8 + l) ∷ own s (wideSignal l) ∷ pinSource n m body (bypassPin l) ∷ [])
+    _ h
+
 add-choice : tie.Need-add-choice
 add-choice c = search needs
 
--- src/lib.rt:76:18
 shared-slice-read-choice : tie.Need-shared-slice-read-choice
 shared-slice-read-choice c = search needs
 
--- src/lib.rt:78:9
 own-number-requires : tie.Need-own-number-requires
 own-number-requires c κs = search needs
 
--- src/lib.rt:78:9
 returns : tie.Need-returns
-returns c = ?
+unfolding codeOf mainSource
+returns c = rw (c .before .if1 .taken) (c .own-number .ensures)
 
--- src/lib.rt:81:39
 add-own-number : tie.Need-add-own-number
 add-own-number c = search needs
 
--- src/lib.rt:81:9
 own-number-requires-2 : tie.Need-own-number-requires-2
 own-number-requires-2 c κs = search needs
 
--- src/lib.rt:81:9
 returns-2 : tie.Need-returns-2
-returns-2 c = ?
+unfolding codeOf mainSource
+returns-2 c = rw (c .before .if2 .taken) (c .own-number2 .ensures)
 
--- src/lib.rt:84:39
 add-own-number-2 : tie.Need-add-own-number-2
 add-own-number-2 c = search needs
 
--- src/lib.rt:84:9
 own-number-requires-3 : tie.Need-own-number-requires-3
 own-number-requires-3 c κs = search needs
 
--- src/lib.rt:84:9
 returns-3 : tie.Need-returns-3
-returns-3 c = ?
+unfolding codeOf mainSource
+returns-3 c = rw (c .before .if3 .taken) (c .own-number3 .ensures)
 
--- src/lib.rt:87:39
 add-own-number-3 : tie.Need-add-own-number-3
 add-own-number-3 c = search needs
 
--- src/lib.rt:87:9
 own-number-requires-4 : tie.Need-own-number-requires-4
 own-number-requires-4 c κs = search needs
 
--- src/lib.rt:87:9
 returns-4 : tie.Need-returns-4
-returns-4 c = ?
+unfolding codeOf mainSource
+returns-4 c = rw (c .before .if4 .taken) (c .own-number4 .ensures)
 
--- src/lib.rt:90:39
 wide-signal-requires : tie.Need-wide-signal-requires
 wide-signal-requires c κs = search needs
 
--- src/lib.rt:90:9
 own-number-requires-5 : tie.Need-own-number-requires-5
 own-number-requires-5 c κs = search needs
 
--- src/lib.rt:90:9
 returns-5 : tie.Need-returns-5
-returns-5 c = ?
+unfolding codeOf mainSource
+returns-5 c = rw (c .before .before .if5 .taken, ← c .before .wide-signal .ensures .0) (c .own-number5 .ensures)
 
--- src/lib.rt:93:21
 add-result : tie.Need-add-result
 add-result c = search needs
 
--- src/lib.rt:93:16
 mul-result : tie.Need-mul-result
 mul-result c = search needs
 
--- src/lib.rt:93:16
 element-copy-out-result : tie.Need-element-copy-out-result
 element-copy-out-result c = search needs
 
--- src/lib.rt:93:9
 returns-6 : tie.Need-returns-6
-returns-6 c = ?
+unfolding mainSource
+returns-6 c =
+    let s = c .before .before .before .before .before .before .before .before .before in
+    let a = s .args in
+    rw (c .before .if6 .taken) (pin-at (a .n) (a .m) (a .body .now) (s .pre .0 .3) (bypassPin (a .l)) (omega arith))
 
--- src/lib.rt:72:1
 returns-7 : tie.Need-returns-7
-returns-7 c = ?
+unfolding codeOf
+returns-7 c =
+    let a = c .before .before .before .before .before .before .before .before .args in
+    sym (ap (codeOf (a .n)) (past (a .n) (a .m) (a .s) (a .body .now) (a .l) (omega arith)))
 
 pub main-code-spec : {M : Type 1} → statement M
 main-code-spec =

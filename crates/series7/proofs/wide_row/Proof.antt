@@ -10,7 +10,7 @@ by-bypass-requires c κs = search needs
 
 returns : tie.Need-returns
 unfolding wideGate
-returns c = search (needs, eq-eqb, ne-eqb, c .by-bypass .ensures)
+returns c = search (needs, eq-eqb, c .by-bypass .ensures)
 
 by-bypass-requires-2 : tie.Need-by-bypass-requires-2
 by-bypass-requires-2 c κs = search needs
@@ -31,7 +31,7 @@ mc31-row-requires c κs = search needs
 
 returns-4 : tie.Need-returns-4
 unfolding wideGate
-returns-4 c = search (needs, eq-eqb, ne-eqb, c .mc31-row .ensures)
+returns-4 c = search (needs, ne-eqb, c .mc31-row .ensures)
 
 pub wide-row-spec : {M : Type 1} → statement M
 wide-row-spec =
