@@ -1,12 +1,12 @@
 -- `clocknumbers::main_code` meets its contract. Assumes nothing.
 use mathlib.Core.Bool.{false}
 use mathlib.Core.List.{List, [], _∷_}
-use mathlib.Core.Path.{_≡_, _∙_, sym, ap}
-use Prim.Native.Nat.{ℕ, _+_, _*_, _≤_}
+use mathlib.Core.Path.{_≡_, sym, ap}
+use Prim.Native.Nat.{ℕ, _+_, _≤_}
 use native.Mathlib.Omega.{arith}
 use borrow.Author.Needs.{needs}
 use lib.ListN.{List·getD-eq-default}
-use Rattle.netlist.specs.Table.{sliceSignals, signalWire, codeOf}
+use Rattle.netlist.specs.Table.{codeOf}
 use Rattle.netlist.specs.declared.Source.the-variants.{Constant}
 use Rattle.slicefile.specs.Format.{mainInput, bypassPin}
 use Rattle.sources.specs.Sources.{own, pinSource, wideSignal}
