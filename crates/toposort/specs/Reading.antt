@@ -10,7 +10,7 @@ use Rattle.netlist.specs.declared.Gate.{Gate}
 use Rattle.toposort.specs.declared.Read.{Read}
 use Rattle.toposort.specs.declared.Read.the-variants.{Signal, Nothing}
 use Rattle.netlist.specs.Rule.{sourcesOf}
-use Rattle.netlist.specs.Table.{rowLength}
+use Rattle.netlist.specs.Table.{rowLength, selectHead}
 use Rattle.toposort.specs.Tally.{lastMark}
 
 -- "reading a pin is reading the signal that drives it, if any"
@@ -36,7 +36,9 @@ headOf table x = getD table (rowLength * x) 0
 -- how many sources a gate with this head reads, in a gate table of n slices
 unfoldable pub placeCount : ℕ → ℕ → ℕ
 placeCount n head =
-    cond (ltb head (4 * n)) 6 (cond (ltb head (16 * n)) 0 (cond (eqb head (16 * n)) 3 (cond (eqb head (16 * n + 1)) 2 1)))
+    cond (ltb head (4 * n)) 6
+    (cond (ltb head (selectHead n)) 0
+    (cond (eqb head (selectHead n)) 3 (cond (eqb head (selectHead n + 1)) 2 (cond (eqb head (selectHead n + 2)) 1 0))))
 
 -- the mark of a signal that is opened, past the places that its gate doesn't have
 abbrev pub firstMark : ℕ → ℕ → ℕ
