@@ -44,6 +44,9 @@ module _ {g : ℕ → Gate} {N : ℕ} {b : Search} {p : Scan} (s : Components g 
         ended = λ w. absurd (omega arith);
         low = λ z. stored marks top (m + 1) z h (λ _ q. omega (arith, o .left)) (λ _ q. rw q (s .low z));
         started = λ z k. stored marks top (m + 1) z h (λ _ q. omega arith) (λ _ q. rw q (s .started z k));
+        at-places = λ z w. stored marks top (m + 1) z h
+            (λ p q. omega (arith, s .at-places z (rw p o), ap (λ x. getD marks x 0) p))
+            (λ p q. rw q (s .at-places z (record { seen = rw q at (w .seen); left = rw q at (w .left) })));
         placed = record {
           at = s .placed .at;
           seen = λ i k. stored marks top (m + 1) (getD stack i 0) h (λ _ q. omega arith) (λ _ q. rw q (s .placed .seen i k));
@@ -121,6 +124,7 @@ module _ {g : ℕ → Gate} {N : ℕ} {b : Search} {p : Scan} (s : Components g 
         ended = s .ended;
         low = s .low;
         started = s .started;
+        at-places = s .at-places;
         placed = s .placed;
         headed = record {
           low = λ k l. s .headed .low k (omega arith);
@@ -182,6 +186,9 @@ module _ {g : ℕ → Gate} {N : ℕ} {b : Search} {p : Scan} (s : Components g 
         ended = λ w. absurd (omega arith);
         low = λ z. stored marks top doneMark z h (λ _ q. omega arith) (λ _ q. rw q (s .low z));
         started = λ z k. stored marks top doneMark z h (λ _ q. omega arith) (λ _ q. rw q (s .started z k));
+        at-places = λ z w. stored marks top doneMark z h
+            (λ p q. absurd (omega (arith, w .left)))
+            (λ p q. rw q (s .at-places z (record { seen = rw q at (w .seen); left = rw q at (w .left) })));
         placed = record {
           at = λ i k. s .placed .at i (omega arith);
           seen = λ i k. stored marks top doneMark (getD stack i 0) h (λ _ q. omega arith) (λ _ q. rw q (s .placed .seen i (omega arith)));

@@ -1,5 +1,5 @@
 -- The start of the search, the opening of a signal, the passing of a root, and what the search says at its end. Assumes nothing.
-use Prim.Native.Nat.{ℕ, suc, _+_, _*_, _<_, zero-le}
+use Prim.Native.Nat.{ℕ, suc, _+_, _*_, _≤_, _<_, zero-le}
 use mathlib.Core.Path.{_≡_, refl, sym, _∙_}
 use mathlib.Core.Logic.{inl, inr, ⊎-elim}
 use native.Mathlib.Omega.{arith}
@@ -8,10 +8,11 @@ use lib.Seq.{getD-set-same, getD-set-other}
 use Rattle.netlist.specs.declared.Gate.{Gate}
 use Rattle.netlist.specs.Graph.{Reads, Loop, WellFormed, Before}
 use Rattle.netlist.specs.Graph.Depends.{direct, through}
+use Rattle.netlist.specs.Rule.{sourcesOf}
 use Rattle.netlist.specs.Settle.{readsIn}
 use Rattle.netlist.specs.Table.{signalCount, flopSignal}
 use Rattle.toposort.specs.declared.Read.the-variants.{Signal}
-use Rattle.toposort.specs.Tally.{doneMark}
+use Rattle.toposort.specs.Tally.{lastMark, doneMark}
 use Rattle.toposort.specs.Reading.{readAt}
 use Rattle.toposort.specs.declared.Scan.{Scan}
 use Rattle.toposort.specs.Search.{Search}
@@ -28,9 +29,10 @@ module _ {g : ℕ → Gate} {N : ℕ} {b : Search} {p : Scan} (s : Components g 
     pub len-lt : len < N
     len-lt = omega (arith, s .placed .fits, tally-less 0 marks y 1 (inside s y h) new (λ p. omega arith))
 
-    pub push : (m : ℕ) → 0 < m → m < doneMark → ((i z : ℕ) → suc i < m → readAt g y i ≡ Signal z → ⊥) → next < N → Above g stack p y
+    pub push : (m : ℕ) → 0 < m → m < doneMark → lastMark ≤ m + length (sourcesOf (g y))
+        → ((i z : ℕ) → suc i < m → readAt g y i ≡ Signal z → ⊥) → next < N → Above g stack p y
         → Moved g N marks order p (opened b p y m) (oneMore p)
-    push m some few none l into = (
+    push m some few enough none l into = (
       record {
         bounded = s .bounded;
         sized = record {
@@ -45,6 +47,9 @@ module _ {g : ℕ → Gate} {N : ℕ} {b : Search} {p : Scan} (s : Components g 
         ended = λ w. absurd (omega arith);
         low = λ z. stored marks y m z hm (λ _ q. omega arith) (λ _ q. rw q (s .low z));
         started = λ z k. stored marks y m z hm (λ _ q. omega arith) (λ _ q. rw q (s .started z k));
+        at-places = λ z w. stored marks y m z hm
+            (λ p q. rw (q, p) enough)
+            (λ p q. rw q (s .at-places z (record { seen = rw q at (w .seen); left = rw q at (w .left) })));
         placed = record {
           at = λ i k. stored stack len y i hs
               (λ p q. rw (q, p) pos-y)
@@ -209,6 +214,7 @@ module _ {g : ℕ → Gate} {N : ℕ} {b : Search} {p : Scan} (s : Components g 
       ended = λ _. e;
       low = s .low;
       started = λ z m. same-or-not z next (λ p. rw p (omega arith)) (λ p. s .started z (omega arith));
+      at-places = s .at-places;
       placed = s .placed;
       headed = s .headed;
       pathed = s .pathed;
@@ -260,6 +266,7 @@ start g n b bounded sized flops quiet =
       ended = λ _. refl;
       low = λ x. by x (λ z. omega arith) (λ i l e. omega (arith, is-done x i l e));
       started = λ x l. absurd (omega arith);
+      at-places = λ x o. absurd (unopened x o);
       placed = record {
         at = λ i l. absurd (omega arith);
         seen = λ i l. absurd (omega arith);
@@ -278,7 +285,7 @@ start g n b bounded sized flops quiet =
         on = λ i l. absurd (omega arith);
         opened = λ i l. absurd (omega arith);
         sorted = λ i j l m. absurd (omega arith);
-        named = λ x o. by x (λ z. absurd (omega (arith, o .seen))) (λ i l e. absurd (omega (arith, o .left, is-done x i l e)));
+        named = λ x o. absurd (unopened x o);
       };
       reach = λ i j l m w. absurd (omega arith);
       looked = λ x i y o l b r. absurd (omega (arith, o .below));
@@ -300,6 +307,9 @@ start g n b bounded sized flops quiet =
 
     is-done : (x i : ℕ) → i < 8 * n → x ≡ flopSignal i → getD (b .marks) x 0 ≡ doneMark
     is-done x i l e = rw e (flops .done i l)
+
+    unopened : (x : ℕ) → Open (b .marks) x → ⊥
+    unopened x o = by x (λ z. omega (arith, o .seen)) (λ i l e. omega (arith, o .left, is-done x i l e))
 
     -- a seen signal reads nothing, so it is on no loop
     nothing : (x y : ℕ) → 0 < getD (b .marks) x 0 → Reads (readsIn g) x y → ⊥

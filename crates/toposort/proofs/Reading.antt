@@ -1,5 +1,5 @@
 -- The signals that a signal reads are those at its six places, and the gate table has them. Assumes nothing.
-use mathlib.Core.Path.{_≡_, refl, sym, ap}
+use mathlib.Core.Path.{_≡_, refl, sym, ap, _∙_}
 use mathlib.Core.Bool.{Bool, true, false, cond}
 use mathlib.Core.List.{List, [], _∷_, List·Memᴰ}
 use mathlib.Core.List.List·Memᴰ.{List·Memᴰ·head, List·Memᴰ·tail}
@@ -86,6 +86,11 @@ first-out zero p i h = refl
 first-out (suc k) p zero h = absurd (not-suc-le-zero h)
 first-out (suc k) p (suc i) h = first-out k (λ j. p (suc j)) i (le-of-suc-le-suc h)
 
+first-length : (k : ℕ) (p : ℕ → Source) → length (first k p) ≡ k
+unfolding first
+first-length zero p = refl
+first-length (suc k) p = ap suc (first-length k (λ i. p (suc i)))
+
 -- a gate of the table reads its first sources, as many as its head says
 first-sources : (n head : ℕ) (p : ℕ → Source) → sourcesOf (gateWith n head p) ≡ first (placeCount n head) p
 unfolding sourcesOf gateWith placeCount first
@@ -113,13 +118,16 @@ module _ (table : List ℕ) (n x : ℕ) where
   abbrev source : ℕ → Source
   source i = sourceOf n (getD table (rowLength * x + i) 0)
 
-  -- source k of a row is read as what it is, where the head counts it
-  pub counted-source : (k : ℕ) → k < placeCount n head
-      → readIn (sourcesOf (gateOf table n x)) k ≡ asRead (sourceOf n (getD table (rowLength * x + 1 + k) 0))
+  -- a gate has as many sources as its head says
+  pub places : length (sourcesOf (gateOf table n x)) ≡ placeCount n head
   unfolding gateOf
-  counted-source k h =
-      let e : rowLength * x + 1 + k ≡ rowLength * x + suc k = omega arith in
-      rw (first-sources n head source, e) (first-in (placeCount n head) source k h)
+  places = ap length (first-sources n head source) ∙ first-length (placeCount n head) source
+
+  -- source k of a row is read as what it is, where the gate has it
+  pub counted-source : (k : ℕ) → k < length (sourcesOf (gateOf table n x))
+      → readIn (sourcesOf (gateOf table n x)) k ≡ asRead (sourceOf n (getD table (rowLength * x + suc k) 0))
+  unfolding gateOf
+  counted-source k h = rw (first-sources n head source) (first-in (placeCount n head) source k (rw places at h))
 
   -- and as nothing elsewhere
   pub other-source : (k : ℕ) → placeCount n head ≤ k → readIn (sourcesOf (gateOf table n x)) k ≡ Nothing

@@ -10,6 +10,7 @@ use Rattle.toposort.specs.declared.Scan.{Scan}
 use Rattle.toposort.specs.declared.Turn.{Turn}
 use Rattle.toposort.specs.declared.Turn.the-variants.{Close, Leave, Raise, Open as OpenUnseen, Merge, Meet}
 use Rattle.netlist.specs.Graph.{Reads, Depends, Loop, WellFormed, Before, Ordered}
+use Rattle.netlist.specs.Rule.{sourcesOf}
 use Rattle.netlist.specs.Settle.{readsIn}
 use Rattle.netlist.specs.Table.{flopSignal}
 use Rattle.toposort.specs.Reading.{readAt}
@@ -20,6 +21,10 @@ use Rattle.toposort.specs.Search.{Search}
 pub record Open (marks : List ℕ) (x : ℕ) : Type 0 where
   pub seen : 0 < getD marks x 0
   pub left : getD marks x 0 < doneMark
+
+-- the mark of an open signal is at a place that its gate has, or past them
+abbrev pub AtPlaces : (ℕ → Gate) → List ℕ → Type 0
+AtPlaces g marks = (x : ℕ) → Open marks x → lastMark ≤ getD marks x 0 + length (sourcesOf (g x))
 
 -- buffers of N signals: each has an entry a signal
 abbrev pub Sized : ℕ → Search → Type 0
@@ -158,6 +163,7 @@ module _ (g : ℕ → Gate) (N : ℕ) (b : Search) (p : Scan) where
     pub ended : next ≡ N → depth ≡ 0
     pub low : (x : ℕ) → getD marks x 0 ≤ doneMark
     pub started : (x : ℕ) → x < next → 0 < getD marks x 0
+    pub at-places : AtPlaces g marks
     pub placed : Placed N b p
     pub headed : Headed b p
     pub pathed : Pathed b p
@@ -192,7 +198,7 @@ abbrev pub Extends : List ℕ → Scan → List ℕ → Scan → Type 0
 Extends old p order q = (p .done ≤ q .done) × ((i : ℕ) → i < p .done → getD order i 0 ≡ getD old i 0)
 
 module _ (g : ℕ → Gate) (N : ℕ) where
-  -- what a step from some marks, an order and from p leaves
+  -- what a step from these marks, this order and p leaves
   abbrev pub Moved : List ℕ → List ℕ → Scan → Search → Scan → Type 0
   Moved marks order p b q =
       Components g N b q × (remaining N (b .marks) q < remaining N marks p) × Extends order p (b .order) q

@@ -1,9 +1,9 @@
 -- The six places at which the search looks for the signals that a signal reads.
 use mathlib.Core.Bool.{cond}
 use mathlib.Core.List.{List, [], _∷_}
-use Prim.Native.Nat.{ℕ, zero, suc, _+_, _-_, _*_}
+use Prim.Native.Nat.{ℕ, zero, suc, _+_, _-_, _*_, _<_}
 use lib.Dec.{eqb, ltb}
-use lib.ListN.{getD}
+use lib.ListN.{length, getD}
 use Rattle.netlist.specs.declared.Source.{Source}
 use Rattle.netlist.specs.declared.Source.the-variants.{Constant, Input, Signal as SignalSource}
 use Rattle.netlist.specs.declared.Gate.{Gate}
@@ -28,6 +28,10 @@ readIn (s ∷ ss) (suc i) = readIn ss i
 -- what signal x reads at place i of six, from its sixth source down to its first: the places that its gate doesn't have come first
 abbrev pub readAt : (ℕ → Gate) → ℕ → ℕ → Read
 readAt g x i = readIn (sourcesOf (g x)) (5 - i)
+
+-- the gate of signal x has a source at place i
+abbrev pub HasPlace : (ℕ → Gate) → ℕ → ℕ → Type 0
+HasPlace g x i = 5 - i < length (sourcesOf (g x))
 
 -- the head of signal x's row
 abbrev pub headOf : List ℕ → ℕ → ℕ

@@ -8,10 +8,10 @@ ghost use Rattle.netlist.specs.Graph.{WellFormed};
 ghost use Rattle.netlist.specs.Settle.{readsIn};
 ghost use Rattle.netlist.specs.Table.{signalLimit, signalCount, IsTable, sourceOf, gateOf, FlopRows, FlopsFirst};
 ghost use Rattle.toposort.specs.Tally.{doneMark};
-ghost use Rattle.toposort.specs.Reading.{asRead, readAt, headOf, placeCount, firstMark};
+ghost use Rattle.toposort.specs.Reading.{asRead, readAt, HasPlace, headOf, placeCount, firstMark};
 ghost use Rattle.toposort.specs.Answer.{OrderOrLoop};
 ghost use Rattle.toposort.specs.Search.{searchIn, searchOut, stackIn, stackWas, withBest, cutTo};
-ghost use Rattle.toposort.specs.Components.{Unseen, Fresh, FlopsListed, IsTop, TopReady, Above, Components, Wants, Moved, Least};
+ghost use Rattle.toposort.specs.Components.{Unseen, Fresh, FlopsListed, AtPlaces, IsTop, TopReady, Above, Components, Wants, Moved, Least};
 use netlist::FIRST_FLOP;
 use netlist::ROW;
 use netlist::SIGNAL_LIMIT;
@@ -80,19 +80,14 @@ fn place_count(n: usize, head: usize) -> usize
     }
 }
 
-// What signal x reads at place i, from its sixth source down to its first.
+// What signal x reads at place i, which its gate has, from its sixth source down to its first.
 fn read_at(table: &[u16], n: usize, x: usize, i: usize) -> Read
-    requires { ⌜ IsTable n (now table) × (x < signalCount n) × (i < 6) ⌝ }
+    requires { ⌜ IsTable n (now table) × (x < signalCount n) × (i < 6) × HasPlace (gateOf (now table) n) x i ⌝ }
     ensures { λ r. ⌜ r ≡ readAt (gateOf (was table) n) x i ⌝ }
 {
-    let at = ROW * x;
-    let head = wide16(table[at]);
-    let source = 5 - i;
-    if source < place_count(n, head) {
-        let code = wide16(table[at + 1 + source]);
-        return read_of(n, code);
-    }
-    Read::Nothing
+    let at = ROW * x + (6 - i);
+    let code = wide16(table[at]);
+    read_of(n, code)
 }
 
 // The mark of signal x when it is opened, past the places that its gate doesn't have.
@@ -139,7 +134,7 @@ fn next_turn(
     p: Scan,
     top: usize,
 ) -> Turn
-    requires { ⌜ IsTable n (now table) × WellFormed (readsIn (gateOf (now table) n)) (signalCount n) ⌝ }
+    requires { ⌜ IsTable n (now table) × WellFormed (readsIn (gateOf (now table) n)) (signalCount n) × AtPlaces (gateOf (now table) n) (now marks) ⌝ }
     requires { ⌜ TopReady (signalCount n) (stackIn marks pos stack heads) p top ⌝ }
     ensures { λ r. ⌜ Wants (gateOf (was table) n) (signalCount n) (stackWas marks pos stack heads) p top r ⌝ }
 {

@@ -1,7 +1,7 @@
 -- `toposort::read_of` meets its contract: its test is whether the number is a signal's wire. Assumes nothing.
 use mathlib.Core.Path.{_≡_}
 use mathlib.Core.Bool.{cond, _&&_, false≢true}
-use Prim.Native.Nat.{ℕ, _-_, _≤_}
+use Prim.Native.Nat.{ℕ, _-_}
 use borrow.Author.Tests.{lt-ltb, le-ltb, le-leb, lt-leb}
 use lib.Dec.{leb, ltb}
 use Rattle.toposort.specs.declared.Read.the-variants.{Signal, Nothing}
