@@ -45,11 +45,11 @@ edgeLength = 27
 
 -- "set/reset pin: 0 ignored, 1 used"
 unfoldable pub resetCode : ℕ → ℕ → List ℕ → ℕ
-resetCode n m body = cond (eqb (setResetUsed body) 1) (codeOf (pinSource n m body setResetPin)) 0
+resetCode n m body = cond (eqb (setResetUsed body) 1) (codeOf n (pinSource n m body setResetPin)) 0
 
 -- "memory writes .. at the address on D1-D6", and only with D in memory mode
 unfoldable pub addressCode : ℕ → ℕ → List ℕ → ℕ → ℕ
-addressCode n m body i = cond (eqb (mode body 3) 1) (codeOf (pinSource n m body (lutPin 3 i))) 0
+addressCode n m body i = cond (eqb (mode body 3) 1) (codeOf n (pinSource n m body (lutPin 3 i))) 0
 
 -- a table's kind by its mode and its shift data: 0 logic, 1 memory, 2 shift from the bypass pin, 3 shift from the next letter
 unfoldable pub kindOf : ℕ → ℕ → ℕ
@@ -64,16 +64,16 @@ writeCode k code = cond (eqb k 0) 0 (cond (eqb k 3) 0 code)
 
 -- letter l's write data
 abbrev pub dataCode : ℕ → ℕ → List ℕ → ℕ → ℕ
-dataCode n m body l = writeCode (tableKind body l) (codeOf (pinSource n m body (bypassPin l)))
+dataCode n m body l = writeCode (tableKind body l) (codeOf n (pinSource n m body (bypassPin l)))
 
 -- number k of the edge
 unfoldable pub edgeNumber : ℕ → ℕ → ℕ → List ℕ → ℕ → ℕ
 edgeNumber n m s body k =
-    cond (eqb k enablePlace) (codeOf (pinSource n m body clockEnablePin))
+    cond (eqb k enablePlace) (codeOf n (pinSource n m body clockEnablePin))
     (cond (eqb k resetPlace) (resetCode n m body)
-    (cond (eqb k writePlace) (codeOf (pinSource n m body writeEnablePin))
+    (cond (eqb k writePlace) (codeOf n (pinSource n m body writeEnablePin))
     (cond (ltb k flopPlace) (addressCode n m body (k - addressPlace))
-    (cond (ltb k valuesPlace) (codeOf (flopSource n m s body (k - flopPlace)))
+    (cond (ltb k valuesPlace) (codeOf n (flopSource n m s body (k - flopPlace)))
     (cond (eqb k valuesPlace) (setResetValues body)
     (cond (ltb k dataPlace) (tableKind body (k - kindPlace))
     (cond (ltb k widthPlace) (dataCode n m body (k - dataPlace)) 8)))))))

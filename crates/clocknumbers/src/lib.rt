@@ -1,10 +1,10 @@
 // The plain numbers that one clock edge needs of a slice of the 7 series.
 ghost use mathlib.Core.Path.{_≡_};
-ghost use Prim.Native.Nat.{_<_, _≤_};
+ghost use Prim.Native.Nat.{_<_};
 ghost use Rattle.lent.specs.Lent.{was};
-ghost use Rattle.netlist.specs.Table.{sliceSignals, codeOf, inputRoom};
-ghost use Rattle.slicefile.specs.Format.{sliceLimit, HoldsSlice, pinCount};
-ghost use Rattle.sources.specs.Sources.{own, pinSource};
+ghost use Rattle.netlist.specs.Table.{codeOf};
+ghost use Rattle.slicefile.specs.Format.{HoldsSlice};
+ghost use Rattle.sources.specs.Sources.{HasPins};
 ghost use Rattle.series7.specs.Edge.{mainSource, secondSource, flopSource};
 ghost use Rattle.clocknumbers.specs.Numbers.{resetCode, addressCode, tableKind, dataCode, edgeNumber, edgeNumbers};
 use slicefile::BYPASS_PIN;
@@ -12,6 +12,7 @@ use slicefile::CE_PIN;
 use slicefile::MAIN;
 use slicefile::MODE;
 use slicefile::MODE_D;
+use slicefile::PIN_COUNT;
 use slicefile::PINS_D;
 use slicefile::SECOND;
 use slicefile::SET_RESET_USED;
@@ -45,91 +46,75 @@ pub const WIDTH: usize = 26;
 
 pub const EDGE_LENGTH: usize = 27;
 
-// The code of what drives pin p of a slice.
-fn pin_code(n: usize, m: usize, body: &[u8], p: usize) -> u16
-    requires { ⌜ HoldsSlice (now body) × (0 < n) × (n ≤ sliceLimit) × (m ≤ inputRoom) × (p < pinCount) ⌝ }
-    ensures { λ r. ⌜ r ≡ codeOf (pinSource n m (was body) p) ⌝ }
-{
-    netlist::source_code(sources::pin_source(n, m, body, p))
-}
-
-// The code of signal k of slice s.
-fn own_code(s: usize, k: usize) -> u16
-    requires { ⌜ (s < sliceLimit) × (k < sliceSignals) ⌝ }
-    ensures { λ r. ⌜ r ≡ codeOf (own s k) ⌝ }
-{
-    netlist::source_code(sources::own(s, k))
-}
-
 // The set/reset pin, where it is used.
-fn reset_code(n: usize, m: usize, body: &[u8]) -> u16
-    requires { ⌜ HoldsSlice (now body) × (0 < n) × (n ≤ sliceLimit) × (m ≤ inputRoom) ⌝ }
+fn reset_code(n: usize, m: usize, s: usize, body: &[u8], pins: &[u16; PIN_COUNT]) -> u16
+    requires { ⌜ HasPins n m s (now body) (now pins) ⌝ }
     ensures { λ r. ⌜ r ≡ resetCode n m (was body) ⌝ }
 {
     if body[SET_RESET_USED] == 1 {
-        return pin_code(n, m, body, SR_PIN);
+        return pins[SR_PIN];
     }
     0
 }
 
 // Pin i of D's table, where D is in memory mode.
-fn address_code(n: usize, m: usize, body: &[u8], i: usize) -> u16
-    requires { ⌜ HoldsSlice (now body) × (0 < n) × (n ≤ sliceLimit) × (m ≤ inputRoom) × (i < 6) ⌝ }
+fn address_code(n: usize, m: usize, s: usize, body: &[u8], pins: &[u16; PIN_COUNT], i: usize) -> u16
+    requires { ⌜ HasPins n m s (now body) (now pins) × (i < 6) ⌝ }
     ensures { λ r. ⌜ r ≡ addressCode n m (was body) i ⌝ }
 {
     if body[MODE_D] == 1 {
-        return pin_code(n, m, body, PINS_D + i);
+        return pins[PINS_D + i];
     }
     0
 }
 
 // What the main flip-flop of a letter takes.
-fn main_code(n: usize, m: usize, s: usize, body: &[u8], l: usize) -> u16
-    requires { ⌜ HoldsSlice (now body) × (n ≤ sliceLimit) × (m ≤ inputRoom) × (s < n) × (l < 4) ⌝ }
-    ensures { λ r. ⌜ r ≡ codeOf (mainSource n m s (was body) l) ⌝ }
+fn main_code(n: usize, m: usize, s: usize, body: &[u8], pins: &[u16; PIN_COUNT], l: usize) -> u16
+    requires { ⌜ HasPins n m s (now body) (now pins) × (l < 4) ⌝ }
+    ensures { λ r. ⌜ r ≡ codeOf n (mainSource n m s (was body) l) ⌝ }
 {
     let choice = body[MAIN + l];
     if choice == 0 {
-        return own_code(s, l);
+        return sources::own_number(s, l);
     }
     if choice == 1 {
-        return own_code(s, O5_SIGNAL + l);
+        return sources::own_number(s, O5_SIGNAL + l);
     }
     if choice == 2 {
-        return own_code(s, SUM_SIGNAL + l);
+        return sources::own_number(s, SUM_SIGNAL + l);
     }
     if choice == 3 {
-        return own_code(s, CARRY_SIGNAL + l);
+        return sources::own_number(s, CARRY_SIGNAL + l);
     }
     if choice == 4 {
-        return own_code(s, sources::wide_signal(l));
+        return sources::own_number(s, sources::wide_signal(l));
     }
     if choice == 5 {
-        return pin_code(n, m, body, BYPASS_PIN + l);
+        return pins[BYPASS_PIN + l];
     }
     0
 }
 
 // What the second flip-flop of a letter takes.
-fn second_code(n: usize, m: usize, s: usize, body: &[u8], l: usize) -> u16
-    requires { ⌜ HoldsSlice (now body) × (n ≤ sliceLimit) × (m ≤ inputRoom) × (s < n) × (l < 4) ⌝ }
-    ensures { λ r. ⌜ r ≡ codeOf (secondSource n m s (was body) l) ⌝ }
+fn second_code(n: usize, m: usize, s: usize, body: &[u8], pins: &[u16; PIN_COUNT], l: usize) -> u16
+    requires { ⌜ HasPins n m s (now body) (now pins) × (l < 4) ⌝ }
+    ensures { λ r. ⌜ r ≡ codeOf n (secondSource n m s (was body) l) ⌝ }
 {
     if body[SECOND + l] == 0 {
-        return own_code(s, O5_SIGNAL + l);
+        return sources::own_number(s, O5_SIGNAL + l);
     }
-    pin_code(n, m, body, BYPASS_PIN + l)
+    pins[BYPASS_PIN + l]
 }
 
 // What bit b of the flip-flop byte takes.
-fn flop_code(n: usize, m: usize, s: usize, body: &[u8], b: usize) -> u16
-    requires { ⌜ HoldsSlice (now body) × (n ≤ sliceLimit) × (m ≤ inputRoom) × (s < n) × (b < 8) ⌝ }
-    ensures { λ r. ⌜ r ≡ codeOf (flopSource n m s (was body) b) ⌝ }
+fn flop_code(n: usize, m: usize, s: usize, body: &[u8], pins: &[u16; PIN_COUNT], b: usize) -> u16
+    requires { ⌜ HasPins n m s (now body) (now pins) × (b < 8) ⌝ }
+    ensures { λ r. ⌜ r ≡ codeOf n (flopSource n m s (was body) b) ⌝ }
 {
     if b < 4 {
-        return main_code(n, m, s, body, b);
+        return main_code(n, m, s, body, pins, b);
     }
-    second_code(n, m, s, body, b - 4)
+    second_code(n, m, s, body, pins, b - 4)
 }
 
 // A table's kind: 0 logic, 1 memory, 2 shift, 3 shift from the next letter.
@@ -151,8 +136,8 @@ fn table_kind(body: &[u8], l: usize) -> u16
 }
 
 // A letter's bypass pin, where its table writes it.
-fn data_code(n: usize, m: usize, body: &[u8], l: usize) -> u16
-    requires { ⌜ HoldsSlice (now body) × (0 < n) × (n ≤ sliceLimit) × (m ≤ inputRoom) × (l < 4) ⌝ }
+fn data_code(n: usize, m: usize, s: usize, body: &[u8], pins: &[u16; PIN_COUNT], l: usize) -> u16
+    requires { ⌜ HasPins n m s (now body) (now pins) × (l < 4) ⌝ }
     ensures { λ r. ⌜ r ≡ dataCode n m (was body) l ⌝ }
 {
     let kind = table_kind(body, l);
@@ -162,28 +147,28 @@ fn data_code(n: usize, m: usize, body: &[u8], l: usize) -> u16
     if kind == 3 {
         return 0;
     }
-    pin_code(n, m, body, BYPASS_PIN + l)
+    pins[BYPASS_PIN + l]
 }
 
 // Number k of a slice's edge.
-fn edge_number(n: usize, m: usize, s: usize, body: &[u8], k: usize) -> u16
-    requires { ⌜ HoldsSlice (now body) × (n ≤ sliceLimit) × (m ≤ inputRoom) × (s < n) ⌝ }
+fn edge_number(n: usize, m: usize, s: usize, body: &[u8], pins: &[u16; PIN_COUNT], k: usize) -> u16
+    requires { ⌜ HasPins n m s (now body) (now pins) ⌝ }
     ensures { λ r. ⌜ r ≡ edgeNumber n m s (was body) k ⌝ }
 {
     if k == ENABLE {
-        return pin_code(n, m, body, CE_PIN);
+        return pins[CE_PIN];
     }
     if k == RESET {
-        return reset_code(n, m, body);
+        return reset_code(n, m, s, body, pins);
     }
     if k == WRITE {
-        return pin_code(n, m, body, WE_PIN);
+        return pins[WE_PIN];
     }
     if k < FLOPS {
-        return address_code(n, m, body, k - ADDRESS);
+        return address_code(n, m, s, body, pins, k - ADDRESS);
     }
     if k < VALUES {
-        return flop_code(n, m, s, body, k - FLOPS);
+        return flop_code(n, m, s, body, pins, k - FLOPS);
     }
     if k == VALUES {
         return body[SET_RESET_VALUES] as u16;
@@ -192,20 +177,26 @@ fn edge_number(n: usize, m: usize, s: usize, body: &[u8], k: usize) -> u16
         return table_kind(body, k - KINDS);
     }
     if k < WIDTH {
-        return data_code(n, m, body, k - DATA);
+        return data_code(n, m, s, body, pins, k - DATA);
     }
     8
 }
 
-// The numbers of the edge of slice s, whose record has that body, in a file of n slices and m outside inputs.
-pub fn edge_of(n: usize, m: usize, s: usize, body: &[u8]) -> [u16; EDGE_LENGTH]
-    requires { ⌜ HoldsSlice (now body) × (n ≤ sliceLimit) × (m ≤ inputRoom) × (s < n) ⌝ }
+// The numbers of the edge of slice s, from the body of its record and the numbers of its pins, in a file of n slices and m outside inputs.
+pub fn edge_of(
+    n: usize,
+    m: usize,
+    s: usize,
+    body: &[u8],
+    pins: &[u16; PIN_COUNT],
+) -> [u16; EDGE_LENGTH]
+    requires { ⌜ HasPins n m s (now body) (now pins) ⌝ }
     ensures { λ r. ⌜ r ≡ edgeNumbers n m s (was body) ⌝ }
 {
     let mut edge = [0u16; EDGE_LENGTH];
     let mut k = 0;
     while k < EDGE_LENGTH {
-        edge[k] = edge_number(n, m, s, body, k);
+        edge[k] = edge_number(n, m, s, body, pins, k);
         k += 1;
     }
     edge

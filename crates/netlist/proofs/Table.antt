@@ -1,4 +1,5 @@
--- A gate that is stored is the gate that is read, and every other signal keeps its gate. Assumes nothing.
+-- A row that is put into the gate table is the row that is read, and every other signal keeps its row; a row that has a gate's numbers says the
+-- gate, and the numbers of a gate that fits are in their range. Assumes nothing.
 use mathlib.Core.Path.{_≡_, refl, _∙_, ap}
 use mathlib.Core.Bool.{true, false}
 use mathlib.Core.List.{List, [], _∷_}
@@ -15,7 +16,7 @@ use Rattle.netlist.specs.declared.Source.{Source}
 use Rattle.netlist.specs.declared.Source.the-variants.{Constant, Input, Signal}
 use Rattle.netlist.specs.declared.Gate.{Gate}
 use Rattle.netlist.specs.declared.Gate.the-variants.{Lut, ZeroOf, Select, Xor, Same, Stored}
-use Rattle.netlist.specs.Table.{signalLimit, rowLength, signalCount, signalWire, inputWire, wireCount, inputRoom, codeOf, sourceOf, selectHead, storedHead, gateNumbers, gateWith, gateOf, storeGate, SourceFits, GateFits}
+use Rattle.netlist.specs.Table.{rowLength, signalWire, inputWire, wireCount, inputRoom, codeOf, sourceOf, selectHead, storedHead, gateNumbers, gateWith, gateOf, storeGate, SourceFits, GateFits}
 
 -- a run of stores leaves what stands before it and after it
 sets-other : (vs l : List ℕ) (i j : ℕ) → (j < i) ⊎ (i + length vs ≤ j) → getD (sets l i vs) j 0 ≡ getD l j 0
@@ -33,15 +34,7 @@ sets-at (a ∷ vs) l i (suc k) h fits =
     let e : i + suc k ≡ suc i + k = omega arith in
     rw e (sets-at vs (set l i a) (suc i) k (le-of-suc-le-suc h) (omega (arith, length-set l i a)))
 
--- a code fits 16 bits
-pub code-fits : (n : ℕ) (s : Source) → signalCount n ≤ signalLimit → SourceFits n inputRoom s → codeOf n s < 65536
-unfolding codeOf
-code-fits n (Constant true) h f = lit< tt
-code-fits n (Constant false) h f = lit< tt
-code-fits n (Input j) h f = omega arith
-code-fits n (Signal x) h f = omega arith
-
--- and is a wire of the netlist
+-- the code of a source that fits is a wire of the netlist
 pub code-wire : (n m : ℕ) (s : Source) → SourceFits n m s → codeOf n s < wireCount n m
 unfolding codeOf
 code-wire n m (Constant true) f = omega arith
@@ -93,7 +86,8 @@ gate-back n m (Stored q) f =
     let e : k - storedHead n ≡ q = omega arith in
     rw (le-ltb k (4 * n) (omega arith), le-ltb k h (omega arith), ne-eqb k h (λ e. omega arith), ne-eqb k (h + 1) (λ e. omega arith), ne-eqb k (h + 2) (λ e. omega arith), e)
 
-seven : (n : ℕ) (gate : Gate) → length (gateNumbers n gate) ≡ 7
+-- a gate has the seven numbers of a row
+pub seven : (n : ℕ) (gate : Gate) → length (gateNumbers n gate) ≡ rowLength
 unfolding gateNumbers
 seven n (Lut t p1 p2 p3 p4 p5 p6) = refl
 seven n (ZeroOf t) = refl
@@ -102,35 +96,100 @@ seven n (Xor a b) = refl
 seven n (Same a) = refl
 seven n (Stored q) = refl
 
+-- signal x's row put into a table
+module _ (table row : List ℕ) (x : ℕ) (size : length row ≡ rowLength) where
+  -- its numbers stand at its places
+  pub put-at :
+      rowLength * x + rowLength ≤ length table → (i : ℕ) → i < rowLength
+      → getD (sets table (rowLength * x) row) (rowLength * x + i) 0 ≡ getD row i 0
+  put-at fits i h = sets-at row table (rowLength * x) i (omega arith) (omega arith)
+
+  -- any other signal keeps its numbers
+  pub put-other :
+      (y : ℕ) → (y ≡ x → ⊥) → (i : ℕ) → i < rowLength
+      → getD (sets table (rowLength * x) row) (rowLength * y + i) 0 ≡ getD table (rowLength * y + i) 0
+  put-other y d i h = sets-other row table (rowLength * x) (rowLength * y + i) (side (decLt y x))
+    where
+      side : Dec (y < x) → (rowLength * y + i < rowLength * x) ⊎ (rowLength * x + length row ≤ rowLength * y + i)
+      side (yes l) = inl (omega arith)
+      side (no l) =
+          let strict : x < y = omega arith in
+          inr (omega arith)
+
+first : (x : ℕ) → rowLength * x + 0 ≡ rowLength * x
+first x = omega arith
+
+-- a signal whose row has a gate's numbers has the gate
+pub row-gate :
+    (table : List ℕ) (n m x : ℕ) (gate : Gate) → GateFits n m gate
+    → ((i : ℕ) → i < rowLength → getD table (rowLength * x + i) 0 ≡ getD (gateNumbers n gate) i 0)
+    → gateOf table n x ≡ gate
+unfolding gateOf
+row-gate table n m x gate f at =
+    gate-same n _ _ _ (λ i. sourceOf n (getD (gateNumbers n gate) i 0)) (rw (first x) at (at 0 (lit< tt))) (λ i h. ap (sourceOf n) (at i h))
+    ∙ gate-back n m gate f
+
 module _ (table : List ℕ) (n x : ℕ) (gate : Gate) where
   -- the gate that is stored is the gate that is read
   pub stored-gate : rowLength * x + rowLength ≤ length table → GateFits n inputRoom gate → gateOf (storeGate table n x gate) n x ≡ gate
-  unfolding gateOf storeGate
-  stored-gate fits f =
-      gate-same n _ _ _ (λ i. sourceOf n (getD (gateNumbers n gate) i 0)) (rw zero-add at (at 0 (lit< tt))) (λ i h. ap (sourceOf n) (at i h))
-      ∙ gate-back n inputRoom gate f
-    where
-      at : (i : ℕ) → i < rowLength → getD (sets table (rowLength * x) (gateNumbers n gate)) (rowLength * x + i) 0 ≡ getD (gateNumbers n gate) i 0
-      at i h = sets-at (gateNumbers n gate) table (rowLength * x) i (omega (arith, seven n gate)) (omega (arith, seven n gate))
-
-      zero-add : rowLength * x + 0 ≡ rowLength * x
-      zero-add = omega arith
+  unfolding storeGate
+  stored-gate fits f = row-gate _ n inputRoom x gate f (put-at table (gateNumbers n gate) x (seven n gate) fits)
 
   -- any other signal keeps its gate
   pub kept-gate : (y : ℕ) → (y ≡ x → ⊥) → gateOf (storeGate table n x gate) n y ≡ gateOf table n y
   unfolding gateOf storeGate
-  kept-gate y d =
-      gate-same n _ _ _ _ (rw zero-add at (at 0 (lit< tt))) (λ i h. ap (sourceOf n) (at i h))
+  kept-gate y d = gate-same n _ _ _ _ (rw (first y) at (at 0 (lit< tt))) (λ i h. ap (sourceOf n) (at i h))
     where
-      side : (i : ℕ) → i < rowLength → Dec (y < x) → (rowLength * y + i < rowLength * x) ⊎ (rowLength * x + length (gateNumbers n gate) ≤ rowLength * y + i)
-      side i h (yes l) = inl (omega arith)
-      side i h (no l) = inr (omega (arith, seven n gate, strict))
-        where
-          strict : x < y
-          strict = omega arith
-
       at : (i : ℕ) → i < rowLength → getD (sets table (rowLength * x) (gateNumbers n gate)) (rowLength * y + i) 0 ≡ getD table (rowLength * y + i) 0
-      at i h = sets-other (gateNumbers n gate) table (rowLength * x) (rowLength * y + i) (side i h (decLt y x))
+      at = put-other table (gateNumbers n gate) x (seven n gate) y d
 
-      zero-add : rowLength * y + 0 ≡ rowLength * y
-      zero-add = omega arith
+-- each number of a list is below a bound
+abbrev Below : ℕ → List ℕ → Type 0
+Below b [] = Unit {0}
+Below b (x ∷ xs) = (x < b) × Below b xs
+
+below-at : (b : ℕ) (xs : List ℕ) → 0 < b → Below b xs → (i : ℕ) → getD xs i 0 < b
+below-at b [] h t i = h
+below-at b (x ∷ xs) h t zero = t .0
+below-at b (x ∷ xs) h t (suc i) = below-at b xs h (t .1) i
+
+-- no flip-flop
+abbrev pub NotStored : Gate → Type 0
+NotStored (Lut t p1 p2 p3 p4 p5 p6) = Unit {0}
+NotStored (ZeroOf t) = Unit {0}
+NotStored (Select s one none) = Unit {0}
+NotStored (Xor a b) = Unit {0}
+NotStored (Same a) = Unit {0}
+NotStored (Stored q) = ⊥
+
+-- the row of a gate that fits
+module _ (n m : ℕ) where
+  some : 0 < wireCount n m
+  some = omega arith
+
+  -- each source is a wire
+  pub row-source : (gate : Gate) → GateFits n m gate → (i : ℕ) → getD (gateNumbers n gate) (suc i) 0 < wireCount n m
+  unfolding gateNumbers GateFits
+  row-source (Lut t p1 p2 p3 p4 p5 p6) f =
+      below-at _ (codeOf n p1 ∷ codeOf n p2 ∷ codeOf n p3 ∷ codeOf n p4 ∷ codeOf n p5 ∷ codeOf n p6 ∷ []) some
+      (code-wire n m p1 (f .1), (code-wire n m p2 (f .2), (code-wire n m p3 (f .3), (code-wire n m p4 (f .4), (code-wire n m p5 (f .5), (code-wire n m p6 (f .6), tt))))))
+  row-source (ZeroOf t) f = below-at _ (0 ∷ 0 ∷ 0 ∷ 0 ∷ 0 ∷ 0 ∷ []) some (some, (some, (some, (some, (some, (some, tt))))))
+  row-source (Select s one none) f =
+      below-at _ (codeOf n s ∷ codeOf n one ∷ codeOf n none ∷ 0 ∷ 0 ∷ 0 ∷ []) some
+      (code-wire n m s (f .0), (code-wire n m one (f .1), (code-wire n m none (f .2), (some, (some, (some, tt))))))
+  row-source (Xor a b) f =
+      below-at _ (codeOf n a ∷ codeOf n b ∷ 0 ∷ 0 ∷ 0 ∷ 0 ∷ []) some
+      (code-wire n m a (f .0), (code-wire n m b (f .1), (some, (some, (some, (some, tt))))))
+  row-source (Same a) f =
+      below-at _ (codeOf n a ∷ 0 ∷ 0 ∷ 0 ∷ 0 ∷ 0 ∷ []) some (code-wire n m a f, (some, (some, (some, (some, (some, tt))))))
+  row-source (Stored q) f = below-at _ (0 ∷ 0 ∷ 0 ∷ 0 ∷ 0 ∷ 0 ∷ []) some (some, (some, (some, (some, (some, (some, tt))))))
+
+  -- the head is below the flip-flops', but for a flip-flop
+  pub row-head : (gate : Gate) → GateFits n m gate → NotStored gate → getD (gateNumbers n gate) 0 0 < storedHead n
+  unfolding gateNumbers GateFits
+  row-head (Lut t p1 p2 p3 p4 p5 p6) f d = omega (arith, f .0)
+  row-head (ZeroOf t) f d = omega arith
+  row-head (Select s one none) f d = omega arith
+  row-head (Xor a b) f d = omega arith
+  row-head (Same a) f d = omega arith
+  row-head (Stored q) f d = absurd d

@@ -67,10 +67,6 @@ unfoldable pub sourceOf : ℕ → ℕ → Source
 sourceOf n code =
     cond (ltb code signalWire) (Constant (eqb code 1)) (cond (ltb code (inputWire n)) (Signal (code - signalWire)) (Input (code - inputWire n)))
 
--- a source whose number is one of the table's, of 16 bits
-abbrev pub Coded : ℕ → Source → Type 0
-Coded n s = codeOf n s < 65536
-
 -- the heads of a select and of the first flip-flop; any other row's head is below that
 abbrev pub selectHead : ℕ → ℕ
 selectHead n = 8 * n

@@ -1,12 +1,18 @@
--- A slice's gates fit the column: the tables, slots, outside inputs and signals that they name are there. Assumes nothing.
+-- A slice's gates fit the column: the tables, slots, outside inputs and signals that they name are there. Its last eight signals are flip-flops, and
+-- no other is one. Assumes nothing.
+use mathlib.Core.Path.{_≡_, ap}
 use mathlib.Core.Bool.{Bool, true, false, cond}
 use mathlib.Core.List.{List}
 use Prim.Native.Nat.{ℕ, _+_, _*_, _%_, _<_}
+use native.Mathlib.Decide.{decLt}
 use native.Mathlib.Omega.{arith}
+use borrow.Author.Tests.{lt-ltb, le-ltb}
 use lib.Dec.{ltb, eqb, lit<}
-use Rattle.netlist.specs.Table.{SourceFits, GateFits}
+use Rattle.netlist.specs.Table.{firstFlop, SourceFits, GateFits}
+use Rattle.netlist.proofs.Table.{NotStored}
 use Rattle.netlist.specs.declared.Source.{Source}
 use Rattle.netlist.specs.declared.Gate.{Gate}
+use Rattle.netlist.specs.declared.Gate.the-variants.{Stored}
 use Rattle.slicefile.specs.Format.{mode, carryData, carryStart, muxChoice, pinCode, bypassPin}
 use Rattle.slicefile.proofs.DriverLaws.{driver-cases}
 use Rattle.sources.specs.Sources.{outputSignal, decodedSource, pinSource, f7aSignal, f7bSignal, wideSignal}
@@ -100,3 +106,50 @@ module _ (n m s : ℕ) (body : List ℕ) (here : s < n) where
   pub gate-fits : (k : ℕ) → GateFits n m (sliceGate n m s body k)
   unfolding sliceGate
   gate-fits k = family-fits (familyOf k) (k % 4) (omega arith)
+
+-- the signals from 24 on, by number and by family
+late-main : (i : ℕ) → i < 4 → familyOf (firstFlop + i) ≡ Main
+late-main i h =
+    let k = firstFlop + i in
+    rw (le-ltb k 4 (omega arith), le-ltb k 8 (omega arith), le-ltb k 12 (omega arith), le-ltb k 16 (omega arith), le-ltb k 20 (omega arith), le-ltb k 24 (omega arith), lt-ltb k 28 (omega arith))
+
+late-second : (i : ℕ) → 3 < i → familyOf (firstFlop + i) ≡ Second
+late-second i h =
+    let k = firstFlop + i in
+    rw (le-ltb k 4 (omega arith), le-ltb k 8 (omega arith), le-ltb k 12 (omega arith), le-ltb k 16 (omega arith), le-ltb k 20 (omega arith), le-ltb k 24 (omega arith), le-ltb k 28 (omega arith))
+
+module _ (n m s : ℕ) (body : List ℕ) where
+  -- signal 24+i is flip-flop i of its slice
+  pub flop-stored : (i : ℕ) → i < 8 → sliceGate n m s body (firstFlop + i) ≡ Stored (8 * s + i)
+  unfolding sliceGate familyGate
+  flop-stored i h = by-side (decLt i 4)
+    where
+      by-side : Dec (i < 4) → familyGate n m s body (familyOf (firstFlop + i)) ((firstFlop + i) % 4) ≡ Stored (8 * s + i)
+      by-side (yes l) = rw (late-main i l) (ap Stored (omega arith))
+      by-side (no l) = rw (late-second i (omega arith)) (ap Stored (omega arith))
+
+  o6-unstored : (shift : Bool) (t l : ℕ) → NotStored (o6Gate shift t (pinsOf n m body l))
+  o6-unstored false t l = tt
+  o6-unstored true t l = tt
+
+  o5-unstored : (shift : Bool) (t l : ℕ) → NotStored (o5Gate shift t (pinsOf n m body l))
+  o5-unstored false t l = tt
+  o5-unstored true t l = tt
+
+  mc31-unstored : (shift : Bool) (t : ℕ) → NotStored (mc31Gate shift t)
+  mc31-unstored false t = tt
+  mc31-unstored true t = tt
+
+  wide-unstored : (i : ℕ) → NotStored (wideGate n m s body i)
+  unfolding wideGate
+  wide-unstored i = either NotStored (eqb i 0) tt (either NotStored (eqb i 1) tt (either NotStored (eqb i 2) tt (mc31-unstored (eqb (mode body 0) 2) (4 * s))))
+
+  -- a signal before the 24th is none
+  pub early-unstored : (k : ℕ) → k < firstFlop → NotStored (sliceGate n m s body k)
+  unfolding sliceGate familyGate
+  early-unstored k h =
+      let P : Family → Type 0 = λ f. NotStored (familyGate n m s body f (k % 4)) in
+      let none : ltb k 24 ≡ true = lt-ltb k 24 h in
+      either P (ltb k 4) (o6-unstored (eqb (mode body (k % 4)) 2) _ _)
+      (either P (ltb k 8) (o5-unstored (eqb (mode body (k % 4)) 2) _ _)
+      (either P (ltb k 12) tt (either P (ltb k 16) tt (either P (ltb k 20) (wide-unstored (k % 4)) (rw none tt)))))

@@ -1,18 +1,22 @@
-// The slice of the 7 series as gates: what each of its 32 signals reads, from the body of its record.
+// The slice of the 7 series as gates: what each of its 32 signals reads, from the body of its record, as the signal's row in the gate table.
 ghost use mathlib.Core.Path.{_≡_};
-ghost use Prim.Native.Nat.{_+_, _*_, _<_, _≤_};
+ghost use mathlib.Core.List.{[], _∷_};
+ghost use Prim.Native.Nat.{_*_, _<_, _≤_};
+ghost use lib.Dec.{eqb};
 ghost use Rattle.lent.specs.Lent.{was};
-ghost use Rattle.netlist.specs.Table.{sliceSignals};
-ghost use Rattle.slicefile.specs.Format.{HoldsSlice, carryStart, muxChoice, bypassPin};
-ghost use Rattle.sources.specs.Sources.{columnLimit, own, pinSource};
-ghost use Rattle.series7.specs.Signals.{muxSignal, pinsOf, o6Gate, o5Gate, mc31Gate, startSource, carryIn, carrySource, byBypass, wideGate, familyOf, familyGate, sliceGate};
-use netlist::Gate;
+ghost use Rattle.netlist.specs.Table.{sliceSignals, codeOf, gateNumbers};
+ghost use Rattle.netlist.specs.declared.Gate.the-variants.{Same};
+ghost use Rattle.slicefile.specs.Format.{HoldsSlice, mode, carryStart, muxChoice, bypassPin};
+ghost use Rattle.sources.specs.Sources.{columnLimit, own, pinSource, HasPins};
+ghost use Rattle.series7.specs.Signals.{muxSignal, mc31Gate, startSource, carryIn, carrySource, byBypass, wideGate, familyOf, familyGate, sliceGate};
+use netlist::ROW;
 use netlist::Source;
 use slicefile::BYPASS_PIN;
 use slicefile::CARRY_DATA;
 use slicefile::CARRY_START;
 use slicefile::MODE;
 use slicefile::MUX;
+use slicefile::PIN_COUNT;
 use slicefile::TABLE_PINS;
 use sources::CARRY_SIGNAL;
 use sources::F7A_SIGNAL;
@@ -28,7 +32,7 @@ const CARRY_OUT: usize = CARRY_SIGNAL + 3;
 
 const CARRY_BEFORE: usize = CARRY_SIGNAL - 1;
 
-// The six pins of a look-up table.
+// The six pins of a look-up table, for the definitions.
 pub struct Pins {
     pub p1: Source,
     pub p2: Source,
@@ -50,172 +54,220 @@ pub enum Family {
     Second,
 }
 
+// A row with that head and up to three sources.
+fn row_of(head: usize, a: u16, b: u16, c: u16) -> [u16; ROW]
+    requires { ⌜ head < 65536 ⌝ }
+    ensures { λ r. ⌜ r ≡ head ∷ a ∷ b ∷ c ∷ 0 ∷ 0 ∷ 0 ∷ [] ⌝ }
+{
+    [head as u16, a, b, c, 0, 0, 0]
+}
+
 // Where a slice's carry chain starts.
-fn start_source(n: usize, m: usize, s: usize, body: &[u8]) -> Source
-    requires { ⌜ HoldsSlice (now body) × (n ≤ columnLimit) × (s < columnLimit) ⌝ }
-    ensures { λ r. ⌜ r ≡ startSource (carryStart (was body)) s (pinSource n m (was body) (bypassPin 0)) ⌝ }
+fn start_number(n: usize, m: usize, s: usize, body: &[u8], pins: &[u16; PIN_COUNT]) -> u16
+    requires { ⌜ HasPins n m s (now body) (now pins) ⌝ }
+    ensures { λ r. ⌜ r ≡ codeOf n (startSource (carryStart (was body)) s (pinSource n m (was body) (bypassPin 0))) ⌝ }
 {
     let choice = body[CARRY_START];
     if choice == 0 {
-        return Source::Constant(false);
+        return 0;
     }
     if choice == 1 {
-        return Source::Constant(true);
+        return 1;
     }
     if choice == 2 {
-        return sources::pin_source(n, m, body, BYPASS_PIN);
+        return pins[BYPASS_PIN];
     }
     if s == 0 {
-        return sources::own(0, CARRY_OUT);
+        return sources::own_number(0, CARRY_OUT);
     }
-    sources::own(s - 1, CARRY_OUT)
+    sources::own_number(s - 1, CARRY_OUT)
 }
 
 // The carry coming into a letter.
-fn carry_in(n: usize, m: usize, s: usize, body: &[u8], l: usize) -> Source
-    requires { ⌜ HoldsSlice (now body) × (n ≤ columnLimit) × (s < columnLimit) × (l < 4) ⌝ }
-    ensures { λ r. ⌜ r ≡ carryIn n m s (was body) l ⌝ }
+fn carry_in(n: usize, m: usize, s: usize, body: &[u8], pins: &[u16; PIN_COUNT], l: usize) -> u16
+    requires { ⌜ HasPins n m s (now body) (now pins) × (l < 4) ⌝ }
+    ensures { λ r. ⌜ r ≡ codeOf n (carryIn n m s (was body) l) ⌝ }
 {
     if l == 0 {
-        return start_source(n, m, s, body);
+        return start_number(n, m, s, body, pins);
     }
-    sources::own(s, CARRY_BEFORE + l)
+    sources::own_number(s, CARRY_BEFORE + l)
 }
 
 // A letter's carry data.
-fn carry_source(n: usize, m: usize, s: usize, body: &[u8], l: usize) -> Source
-    requires { ⌜ HoldsSlice (now body) × (n ≤ columnLimit) × (s < columnLimit) × (l < 4) ⌝ }
-    ensures { λ r. ⌜ r ≡ carrySource n m s (was body) l ⌝ }
+fn carry_data(n: usize, m: usize, s: usize, body: &[u8], pins: &[u16; PIN_COUNT], l: usize) -> u16
+    requires { ⌜ HasPins n m s (now body) (now pins) × (l < 4) ⌝ }
+    ensures { λ r. ⌜ r ≡ codeOf n (carrySource n m s (was body) l) ⌝ }
 {
     if body[CARRY_DATA + l] == 0 {
-        return sources::own(s, O5_SIGNAL + l);
+        return sources::own_number(s, O5_SIGNAL + l);
     }
-    sources::pin_source(n, m, body, BYPASS_PIN + l)
+    pins[BYPASS_PIN + l]
 }
 
-// The six pins of a letter's table.
-fn table_pins(n: usize, m: usize, body: &[u8], l: usize) -> Pins
-    requires { ⌜ HoldsSlice (now body) × (n ≤ columnLimit) × (l < 4) ⌝ }
-    ensures { λ r. ⌜ r ≡ pinsOf n m (was body) l ⌝ }
+fn o6_row(
+    n: usize,
+    m: usize,
+    s: usize,
+    body: &[u8],
+    pins: &[u16; PIN_COUNT],
+    l: usize,
+) -> [u16; ROW]
+    requires { ⌜ HasPins n m s (now body) (now pins) × (l < 4) ⌝ }
+    ensures { λ r. ⌜ r ≡ gateNumbers n (familyGate n m s (was body) Family.O6 l) ⌝ }
 {
-    let p1 = sources::pin_source(n, m, body, TABLE_PINS * l);
-    let p2 = sources::pin_source(n, m, body, TABLE_PINS * l + 1);
-    let p3 = sources::pin_source(n, m, body, TABLE_PINS * l + 2);
-    let p4 = sources::pin_source(n, m, body, TABLE_PINS * l + 3);
-    let p5 = sources::pin_source(n, m, body, TABLE_PINS * l + 4);
-    let p6 = sources::pin_source(n, m, body, TABLE_PINS * l + 5);
-    Pins {
-        p1,
-        p2,
-        p3,
-        p4,
-        p5,
-        p6,
+    let table = (4 * s + l) as u16;
+    let first = TABLE_PINS * l;
+    let p1 = pins[first];
+    let p2 = pins[first + 1];
+    let p3 = pins[first + 2];
+    let p4 = pins[first + 3];
+    let p5 = pins[first + 4];
+    let p6 = pins[first + 5];
+    if body[MODE + l] == 2 {
+        return [table, p2, p3, p4, p5, p6, 0];
     }
+    [table, p1, p2, p3, p4, p5, p6]
 }
 
-fn o6_gate(shift: bool, table: usize, p: Pins) -> Gate
-    ensures { λ r. ⌜ r ≡ o6Gate shift table p ⌝ }
+fn o5_row(
+    n: usize,
+    m: usize,
+    s: usize,
+    body: &[u8],
+    pins: &[u16; PIN_COUNT],
+    l: usize,
+) -> [u16; ROW]
+    requires { ⌜ HasPins n m s (now body) (now pins) × (l < 4) ⌝ }
+    ensures { λ r. ⌜ r ≡ gateNumbers n (familyGate n m s (was body) Family.O5 l) ⌝ }
 {
-    let p1 = p.p1;
-    let p2 = p.p2;
-    let p3 = p.p3;
-    let p4 = p.p4;
-    let p5 = p.p5;
-    let p6 = p.p6;
-    if shift {
-        return Gate::Lut {
-            table,
-            p1: p2,
-            p2: p3,
-            p3: p4,
-            p4: p5,
-            p5: p6,
-            p6: Source::Constant(false),
-        };
+    let table = 4 * s + l;
+    if body[MODE + l] == 2 {
+        return row_of(4 * n + table, 0, 0, 0);
     }
-    Gate::Lut {
-        table,
-        p1,
-        p2,
-        p3,
-        p4,
-        p5,
-        p6,
-    }
+    let first = TABLE_PINS * l;
+    let p1 = pins[first];
+    let p2 = pins[first + 1];
+    let p3 = pins[first + 2];
+    let p4 = pins[first + 3];
+    let p5 = pins[first + 4];
+    [table as u16, p1, p2, p3, p4, p5, 0]
 }
 
-fn o5_gate(shift: bool, table: usize, p: Pins) -> Gate
-    ensures { λ r. ⌜ r ≡ o5Gate shift table p ⌝ }
+fn mc31_row(n: usize, s: usize, body: &[u8]) -> [u16; ROW]
+    requires { ⌜ HoldsSlice (now body) × (n ≤ columnLimit) × (s < n) ⌝ }
+    ensures { λ r. ⌜ r ≡ gateNumbers n (mc31Gate (eqb (mode (was body) 0) 2) (4 * s)) ⌝ }
 {
-    let p1 = p.p1;
-    let p2 = p.p2;
-    let p3 = p.p3;
-    let p4 = p.p4;
-    let p5 = p.p5;
-    if shift {
-        return Gate::ZeroOf(table);
+    if body[MODE] == 2 {
+        return [(4 * s) as u16, 1, 1, 1, 1, 1, 0];
     }
-    Gate::Lut {
-        table,
-        p1,
-        p2,
-        p3,
-        p4,
-        p5,
-        p6: Source::Constant(false),
-    }
-}
-
-fn mc31_gate(shift: bool, table: usize) -> Gate
-    ensures { λ r. ⌜ r ≡ mc31Gate shift table ⌝ }
-{
-    if shift {
-        let one = Source::Constant(true);
-        return Gate::Lut {
-            table,
-            p1: one,
-            p2: one,
-            p3: one,
-            p4: one,
-            p5: one,
-            p6: Source::Constant(false),
-        };
-    }
-    Gate::ZeroOf(table)
+    row_of(4 * n + 4 * s, 0, 0, 0)
 }
 
 // A multiplexer by a letter's bypass pin.
-fn by_bypass(n: usize, m: usize, s: usize, body: &[u8], l: usize, one: usize, other: usize) -> Gate
-    requires { ⌜ HoldsSlice (now body) × (n ≤ columnLimit) × (s < columnLimit) ⌝ }
+fn by_bypass(
+    n: usize,
+    m: usize,
+    s: usize,
+    body: &[u8],
+    pins: &[u16; PIN_COUNT],
+    l: usize,
+    one: usize,
+    other: usize,
+) -> [u16; ROW]
+    requires { ⌜ HasPins n m s (now body) (now pins) ⌝ }
     requires { ⌜ (l < 4) × (one < sliceSignals) × (other < sliceSignals) ⌝ }
-    ensures { λ r. ⌜ r ≡ byBypass n m s (was body) l one other ⌝ }
+    ensures { λ r. ⌜ r ≡ gateNumbers n (byBypass n m s (was body) l one other) ⌝ }
 {
-    let select = sources::pin_source(n, m, body, BYPASS_PIN + l);
-    let a = sources::own(s, one);
-    let b = sources::own(s, other);
-    Gate::Select {
-        select,
-        one: a,
-        zero: b,
-    }
+    let select = pins[BYPASS_PIN + l];
+    let a = sources::own_number(s, one);
+    let b = sources::own_number(s, other);
+    row_of(8 * n, select, a, b)
 }
 
 // Signals 16 to 19.
-fn wide_gate(n: usize, m: usize, s: usize, body: &[u8], i: usize) -> Gate
-    requires { ⌜ HoldsSlice (now body) × (n ≤ columnLimit) × (s < columnLimit) ⌝ }
-    ensures { λ r. ⌜ r ≡ wideGate n m s (was body) i ⌝ }
+fn wide_row(
+    n: usize,
+    m: usize,
+    s: usize,
+    body: &[u8],
+    pins: &[u16; PIN_COUNT],
+    i: usize,
+) -> [u16; ROW]
+    requires { ⌜ HasPins n m s (now body) (now pins) ⌝ }
+    ensures { λ r. ⌜ r ≡ gateNumbers n (wideGate n m s (was body) i) ⌝ }
 {
     if i == 0 {
-        return by_bypass(n, m, s, body, 0, 0, 1);
+        return by_bypass(n, m, s, body, pins, 0, 0, 1);
     }
     if i == 1 {
-        return by_bypass(n, m, s, body, 2, 2, 3);
+        return by_bypass(n, m, s, body, pins, 2, 2, 3);
     }
     if i == 2 {
-        return by_bypass(n, m, s, body, 1, F7A_SIGNAL, F7B_SIGNAL);
+        return by_bypass(n, m, s, body, pins, 1, F7A_SIGNAL, F7B_SIGNAL);
     }
-    mc31_gate(body[MODE] == 2, 4 * s)
+    mc31_row(n, s, body)
+}
+
+fn carry_row(
+    n: usize,
+    m: usize,
+    s: usize,
+    body: &[u8],
+    pins: &[u16; PIN_COUNT],
+    l: usize,
+) -> [u16; ROW]
+    requires { ⌜ HasPins n m s (now body) (now pins) × (l < 4) ⌝ }
+    ensures { λ r. ⌜ r ≡ gateNumbers n (familyGate n m s (was body) Family.Carry l) ⌝ }
+{
+    let select = sources::own_number(s, l);
+    let one = carry_in(n, m, s, body, pins, l);
+    let zero = carry_data(n, m, s, body, pins, l);
+    row_of(8 * n, select, one, zero)
+}
+
+fn sum_row(
+    n: usize,
+    m: usize,
+    s: usize,
+    body: &[u8],
+    pins: &[u16; PIN_COUNT],
+    l: usize,
+) -> [u16; ROW]
+    requires { ⌜ HasPins n m s (now body) (now pins) × (l < 4) ⌝ }
+    ensures { λ r. ⌜ r ≡ gateNumbers n (familyGate n m s (was body) Family.Sum l) ⌝ }
+{
+    let a = sources::own_number(s, l);
+    let b = carry_in(n, m, s, body, pins, l);
+    row_of(8 * n + 1, a, b, 0)
+}
+
+fn mux_signal(l: usize, choice: u8) -> usize
+    requires { ⌜ l < 4 ⌝ }
+    ensures { λ r. ⌜ (r ≡ muxSignal l choice) × (r < sliceSignals) ⌝ }
+{
+    if choice == 0 {
+        return O5_SIGNAL + l;
+    }
+    if choice == 1 {
+        return SUM_SIGNAL + l;
+    }
+    if choice == 2 {
+        return CARRY_SIGNAL + l;
+    }
+    if choice == 3 {
+        return sources::wide_signal(l);
+    }
+    SECOND_SIGNAL + l
+}
+
+fn mux_row(n: usize, s: usize, body: &[u8], l: usize) -> [u16; ROW]
+    requires { ⌜ HoldsSlice (now body) × (n ≤ columnLimit) × (s < n) × (l < 4) ⌝ }
+    ensures { λ r. ⌜ r ≡ gateNumbers n (Same (own s (muxSignal l (muxChoice (was body) l)))) ⌝ }
+{
+    let k = mux_signal(l, body[MUX + l]);
+    let a = sources::own_number(s, k);
+    row_of(8 * n + 2, a, 0, 0)
 }
 
 // The family of signal k of a slice.
@@ -246,73 +298,42 @@ fn family_of(k: usize) -> Family
     Family::Second
 }
 
-// The gate of a letter's signal in a family.
-fn family_gate(n: usize, m: usize, s: usize, body: &[u8], f: Family, l: usize) -> Gate
-    requires { ⌜ HoldsSlice (now body) × (n ≤ columnLimit) × (s < columnLimit) × (l < 4) ⌝ }
-    ensures { λ r. ⌜ r ≡ familyGate n m s (was body) f l ⌝ }
+// The row of a letter's signal in a family.
+fn family_row(
+    n: usize,
+    m: usize,
+    s: usize,
+    body: &[u8],
+    pins: &[u16; PIN_COUNT],
+    f: Family,
+    l: usize,
+) -> [u16; ROW]
+    requires { ⌜ HasPins n m s (now body) (now pins) × (l < 4) ⌝ }
+    ensures { λ r. ⌜ r ≡ gateNumbers n (familyGate n m s (was body) f l) ⌝ }
 {
     match f {
-        Family::O6 => o6_gate(body[MODE + l] == 2, 4 * s + l, table_pins(n, m, body, l)),
-        Family::O5 => o5_gate(body[MODE + l] == 2, 4 * s + l, table_pins(n, m, body, l)),
-        Family::Carry => carry_gate(n, m, s, body, l),
-        Family::Sum => sum_gate(n, m, s, body, l),
-        Family::Wide => wide_gate(n, m, s, body, l),
-        Family::Mux => mux_gate(s, body, l),
-        Family::Main => Gate::Stored(8 * s + l),
-        Family::Second => Gate::Stored(8 * s + 4 + l),
+        Family::O6 => o6_row(n, m, s, body, pins, l),
+        Family::O5 => o5_row(n, m, s, body, pins, l),
+        Family::Carry => carry_row(n, m, s, body, pins, l),
+        Family::Sum => sum_row(n, m, s, body, pins, l),
+        Family::Wide => wide_row(n, m, s, body, pins, l),
+        Family::Mux => mux_row(n, s, body, l),
+        Family::Main => row_of(8 * n + 3 + (8 * s + l), 0, 0, 0),
+        Family::Second => row_of(8 * n + 3 + (8 * s + 4 + l), 0, 0, 0),
     }
 }
 
-fn carry_gate(n: usize, m: usize, s: usize, body: &[u8], l: usize) -> Gate
-    requires { ⌜ HoldsSlice (now body) × (n ≤ columnLimit) × (s < columnLimit) × (l < 4) ⌝ }
-    ensures { λ r. ⌜ r ≡ familyGate n m s (was body) Family.Carry l ⌝ }
+// The row of signal k of slice s in the gate table, from the body of its record and the numbers of its pins, in a file of n slices and m outside inputs.
+pub fn row_at(
+    n: usize,
+    m: usize,
+    s: usize,
+    body: &[u8],
+    pins: &[u16; PIN_COUNT],
+    k: usize,
+) -> [u16; ROW]
+    requires { ⌜ HasPins n m s (now body) (now pins) × (k < sliceSignals) ⌝ }
+    ensures { λ r. ⌜ r ≡ gateNumbers n (sliceGate n m s (was body) k) ⌝ }
 {
-    let select = sources::own(s, l);
-    let one = carry_in(n, m, s, body, l);
-    let zero = carry_source(n, m, s, body, l);
-    Gate::Select { select, one, zero }
-}
-
-fn sum_gate(n: usize, m: usize, s: usize, body: &[u8], l: usize) -> Gate
-    requires { ⌜ HoldsSlice (now body) × (n ≤ columnLimit) × (s < columnLimit) × (l < 4) ⌝ }
-    ensures { λ r. ⌜ r ≡ familyGate n m s (was body) Family.Sum l ⌝ }
-{
-    let a = sources::own(s, l);
-    let b = carry_in(n, m, s, body, l);
-    Gate::Xor(a, b)
-}
-
-fn mux_signal(l: usize, choice: u8) -> usize
-    requires { ⌜ l < 4 ⌝ }
-    ensures { λ r. ⌜ (r ≡ muxSignal l choice) × (r < sliceSignals) ⌝ }
-{
-    if choice == 0 {
-        return O5_SIGNAL + l;
-    }
-    if choice == 1 {
-        return SUM_SIGNAL + l;
-    }
-    if choice == 2 {
-        return CARRY_SIGNAL + l;
-    }
-    if choice == 3 {
-        return sources::wide_signal(l);
-    }
-    SECOND_SIGNAL + l
-}
-
-fn mux_gate(s: usize, body: &[u8], l: usize) -> Gate
-    requires { ⌜ HoldsSlice (now body) × (s < columnLimit) × (l < 4) ⌝ }
-    ensures { λ r. ⌜ r ≡ Gate.Same (own s (muxSignal l (muxChoice (was body) l))) ⌝ }
-{
-    let k = mux_signal(l, body[MUX + l]);
-    Gate::Same(sources::own(s, k))
-}
-
-// The gate of signal k of slice s, whose record has that body, in a file of n slices and m outside inputs.
-pub fn gate_at(n: usize, m: usize, s: usize, body: &[u8], k: usize) -> Gate
-    requires { ⌜ HoldsSlice (now body) × (n ≤ columnLimit) × (s < n) × (k < sliceSignals) ⌝ }
-    ensures { λ r. ⌜ r ≡ sliceGate n m s (was body) k ⌝ }
-{
-    family_gate(n, m, s, body, family_of(k), k % 4)
+    family_row(n, m, s, body, pins, family_of(k), k % 4)
 }

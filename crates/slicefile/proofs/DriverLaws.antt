@@ -36,16 +36,16 @@ driver-cases P code n m none constant unconnected input output =
     (by-test P (ltb code 4096) _ _ (λ t. by-test P (ltb (code - 256) m) _ _ (λ u. input (code - 256) (ltb→lt _ _ u)) none)
     (by-test P (here && one) _ _ (λ t. output _ (ltb→lt _ _ (and-left here one t)) (ltb→lt _ _ (and-right here one t))) none)))
 
-pub decoded-within : (code n m : ℕ) → DecodedWithin n (driverOf code n m)
-decoded-within code n m = driver-cases (DecodedWithin n) code n m tt (λ b. tt) (λ e. tt) (λ j h. tt) (λ o h k. (h, k))
+pub decoded-within : (code n m : ℕ) → DecodedWithin n m (driverOf code n m)
+decoded-within code n m = driver-cases (DecodedWithin n m) code n m tt (λ b. tt) (λ e. tt) (λ j h. h) (λ o h k. (h, k))
 
--- a smaller column's driver is a larger one's
-pub within-more : {n k : ℕ} → n ≤ k → (d : Decoded) → DecodedWithin n d → DecodedWithin k d
-within-more h (Driven (driver.Constant b)) w = tt
-within-more h (Driven driver.Open) w = tt
-within-more h (Driven (driver.Input j)) w = tt
-within-more h (Driven (driver.Output o)) w = (omega arith, w .1)
-within-more h Missing w = tt
+-- a driver of fewer outside inputs is one of more
+pub within-more : (n : ℕ) {m k : ℕ} → m ≤ k → (d : Decoded) → DecodedWithin n m d → DecodedWithin n k d
+within-more n h (Driven (driver.Constant b)) w = tt
+within-more n h (Driven driver.Open) w = tt
+within-more n h (Driven (driver.Input j)) w = omega arith
+within-more n h (Driven (driver.Output o)) w = w
+within-more n h Missing w = tt
 
 abbrev isOpen : Decoded → Bool
 isOpen (Driven (driver.Constant b)) = false

@@ -19,13 +19,13 @@ driverOf code n m =
     (Driven (driver.Output (record { slice = (code - 4096) / 16; output = code % 16 })))
     Missing)))
 
--- what a decoded driver names is there: its slice below n, its output one of the twelve
-abbrev pub Within : ℕ → Driver → Type 0
-Within n (driver.Constant b) = Unit {0}
-Within n driver.Open = Unit {0}
-Within n (driver.Input j) = Unit {0}
-Within n (driver.Output o) = (o .slice < n) × (o .output < 12)
+-- what a decoded driver names is there: its outside input below m, its slice below n, its output one of the twelve
+abbrev pub Within : ℕ → ℕ → Driver → Type 0
+Within n m (driver.Constant b) = Unit {0}
+Within n m driver.Open = Unit {0}
+Within n m (driver.Input j) = j < m
+Within n m (driver.Output o) = (o .slice < n) × (o .output < 12)
 
-abbrev pub DecodedWithin : ℕ → Decoded → Type 0
-DecodedWithin n (Driven d) = Within n d
-DecodedWithin n Missing = Unit {0}
+abbrev pub DecodedWithin : ℕ → ℕ → Decoded → Type 0
+DecodedWithin n m (Driven d) = Within n m d
+DecodedWithin n m Missing = Unit {0}

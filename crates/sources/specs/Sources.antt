@@ -1,15 +1,16 @@
 -- Where a slice takes its bits from. n and m are the file's slice count and outside inputs, s is a slice's number, body the body of its record, p a pin, k a
 -- signal of the slice, l a letter (A to D count 0 to 3).
-use Prim.Native.Nat.{ℕ, _+_, _*_}
+use Prim.Native.Nat.{ℕ, _+_, _*_, _≤_, _<_}
 use mathlib.Core.Path.{_≡_}
 use mathlib.Core.Bool.{true, false, cond}
 use mathlib.Core.List.{List, _∷_}
 use lib.Dec.{ltb, eqb}
 use Rattle.netlist.specs.Rule.{valueOf, signalsIn, isInput}
-use Rattle.netlist.specs.Table.{sliceSignals}
+use Rattle.netlist.specs.Table.{sliceSignals, codeOf}
 use Rattle.netlist.specs.declared.Source.{Source}
 use Rattle.netlist.specs.declared.Source.the-variants.{Constant, Input, Signal}
-use Rattle.slicefile.specs.Format.{pinCode}
+use Rattle.slicefile.specs.Lists.{tabulate}
+use Rattle.slicefile.specs.Format.{HoldsSlice, pinCount, pinCode}
 use Rattle.slicefile.specs.Driver.{driverOf}
 use Rattle.slicefile.specs.declared.Driver.{Driver}
 use Rattle.slicefile.specs.declared.Driver.the-variants as driver
@@ -42,6 +43,14 @@ decodedSource Missing = Constant false
 
 unfoldable pub pinSource : ℕ → ℕ → List ℕ → ℕ → Source
 pinSource n m body p = decodedSource (driverOf (pinCode body p) n m)
+
+-- the numbers of a slice's pins in the gate table
+unfoldable pub pinNumbers : ℕ → ℕ → List ℕ → List ℕ
+pinNumbers n m body = tabulate 0 pinCount (λ p. codeOf n (pinSource n m body p))
+
+-- slice s of n has that body, and its pins have these numbers
+abbrev pub HasPins : ℕ → ℕ → ℕ → List ℕ → List ℕ → Type 0
+HasPins n m s body pins = HoldsSlice body × (n ≤ columnLimit) × (s < n) × (pins ≡ pinNumbers n m body)
 
 -- "it reads as 1 and nothing depends on anything through it": the bit is 1 over any inputs and values, and among the sources of a gate it is
 -- no signal and no outside input

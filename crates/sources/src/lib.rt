@@ -1,16 +1,17 @@
-// Where a slice takes its bits from: the source of a pin, its own signals, and which of them is "wide".
+// Where a slice takes its bits from: the numbers of its pins and of its own signals, and which of them is "wide".
 ghost use mathlib.Core.Path.{_≡_};
-ghost use Prim.Native.Nat.{_<_, _≤_};
+ghost use Prim.Native.Nat.{_+_, _*_, _<_, _≤_};
 ghost use Rattle.lent.specs.Lent.{was};
-ghost use Rattle.netlist.specs.Table.{sliceSignals};
+ghost use Rattle.netlist.specs.Table.{sliceSignals, signalWire, inputRoom, codeOf};
 ghost use Rattle.slicefile.specs.Format.{pinCount, HoldsSlice};
 ghost use Rattle.slicefile.specs.Driver.{Within, DecodedWithin};
-ghost use Rattle.sources.specs.Sources.{columnLimit, own, outputSignal, driverSource, decodedSource, pinSource, wideSignal};
+ghost use Rattle.sources.specs.Sources.{columnLimit, outputSignal, driverSource, decodedSource, pinSource, pinNumbers, wideSignal};
+use netlist::SIGNAL_WIRE;
 use netlist::SLICE_SIGNALS;
-use netlist::Source;
 use slicefile::Decoded;
 use slicefile::Driver;
 use slicefile::Output;
+use slicefile::PIN_COUNT;
 use slicefile::decode_driver;
 use slicefile::pin_code;
 
@@ -49,52 +50,67 @@ fn output_signal(k: usize) -> usize
     k + PAST_O6
 }
 
-// The signal that is an output of a slice.
-fn output_source(o: Output) -> Source
+// The number of signal k of slice s.
+pub fn own_number(s: usize, k: usize) -> u16
+    requires { ⌜ (s < columnLimit) × (k < sliceSignals) ⌝ }
+    ensures { λ r. ⌜ r ≡ signalWire + (sliceSignals * s + k) ⌝ }
+{
+    (SIGNAL_WIRE + SLICE_SIGNALS * s + k) as u16
+}
+
+// The number of an output of a slice.
+fn output_number(o: Output) -> u16
     requires { ⌜ (o .slice < columnLimit) × (o .output < 12) ⌝ }
-    ensures { λ r. ⌜ r ≡ own (o .slice) (outputSignal (o .output)) ⌝ }
+    ensures { λ r. ⌜ r ≡ signalWire + (sliceSignals * o .slice + outputSignal (o .output)) ⌝ }
 {
     let slice = o.slice;
     let output = o.output;
-    own(slice, output_signal(output))
+    own_number(slice, output_signal(output))
 }
 
-fn driver_source(d: Driver) -> Source
-    requires { ⌜ Within columnLimit d ⌝ }
-    ensures { λ r. ⌜ r ≡ driverSource d ⌝ }
+// The number of a driver in the gate table of n slices.
+fn driver_number(n: usize, d: Driver) -> u16
+    requires { ⌜ (n ≤ columnLimit) × Within n inputRoom d ⌝ }
+    ensures { λ r. ⌜ r ≡ codeOf n (driverSource d) ⌝ }
 {
     match d {
-        Driver::Constant(b) => Source::Constant(b),
-        Driver::Open => Source::Constant(true),
-        Driver::Input(j) => Source::Input(j),
-        Driver::Output(o) => output_source(o),
+        Driver::Constant(b) => if b { 1 } else { 0 },
+        Driver::Open => 1,
+        Driver::Input(j) => (SIGNAL_WIRE + SLICE_SIGNALS * n + j) as u16,
+        Driver::Output(o) => output_number(o),
     }
 }
 
-fn decoded_source(d: Decoded) -> Source
-    requires { ⌜ DecodedWithin columnLimit d ⌝ }
-    ensures { λ r. ⌜ r ≡ decodedSource d ⌝ }
+fn decoded_number(n: usize, d: Decoded) -> u16
+    requires { ⌜ (n ≤ columnLimit) × DecodedWithin n inputRoom d ⌝ }
+    ensures { λ r. ⌜ r ≡ codeOf n (decodedSource d) ⌝ }
 {
     match d {
-        Decoded::Driven(v) => driver_source(v),
-        Decoded::Missing => Source::Constant(false),
+        Decoded::Driven(v) => driver_number(n, v),
+        Decoded::Missing => 0,
     }
 }
 
-// Where pin p of a slice takes its bit from.
-pub fn pin_source(n: usize, m: usize, body: &[u8], p: usize) -> Source
-    requires { ⌜ HoldsSlice (now body) × (p < pinCount) × (n ≤ columnLimit) ⌝ }
-    ensures { λ r. ⌜ r ≡ pinSource n m (was body) p ⌝ }
+// The number of where pin p of a slice takes its bit from.
+fn pin_number(n: usize, m: usize, body: &[u8], p: usize) -> u16
+    requires { ⌜ HoldsSlice (now body) × (p < pinCount) × (n ≤ columnLimit) × (m ≤ inputRoom) ⌝ }
+    ensures { λ r. ⌜ r ≡ codeOf n (pinSource n m (was body) p) ⌝ }
 {
-    decoded_source(decode_driver(pin_code(body, p), n, m))
+    decoded_number(n, decode_driver(pin_code(body, p), n, m))
 }
 
-// Signal k of slice s.
-pub fn own(s: usize, k: usize) -> Source
-    requires { ⌜ (s < columnLimit) × (k < sliceSignals) ⌝ }
-    ensures { λ r. ⌜ r ≡ own s k ⌝ }
+// The numbers of all pins of a slice.
+pub fn pin_numbers(n: usize, m: usize, body: &[u8]) -> [u16; PIN_COUNT]
+    requires { ⌜ HoldsSlice (now body) × (n ≤ columnLimit) × (m ≤ inputRoom) ⌝ }
+    ensures { λ r. ⌜ r ≡ pinNumbers n m (was body) ⌝ }
 {
-    Source::Signal(SLICE_SIGNALS * s + k)
+    let mut numbers = [0u16; PIN_COUNT];
+    let mut p = 0;
+    while p < PIN_COUNT {
+        numbers[p] = pin_number(n, m, body, p);
+        p += 1;
+    }
+    numbers
 }
 
 // The signal that is "wide" for a letter.

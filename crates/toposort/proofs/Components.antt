@@ -2,6 +2,7 @@
 use Prim.Native.Nat.{ℕ, _+_, _-_, _≤_, _<_}
 use mathlib.Core.Path.{_≡_, refl, sym, ap, _∙_, subst}
 use mathlib.Core.Logic.{inl, inr, ⊎-elim}
+use mathlib.Core.List.{List}
 use native.Mathlib.Omega.{arith}
 use native.Mathlib.Decide.{decLt}
 use lib.ListN.{length, getD, set}
@@ -13,7 +14,7 @@ use Rattle.netlist.specs.Settle.{readsIn}
 use Rattle.toposort.specs.declared.Scan.{Scan}
 use Rattle.toposort.specs.Tally.{lastMark, doneMark}
 use Rattle.toposort.specs.Search.{Search, searchOf, withBest, cutTo}
-use Rattle.toposort.specs.Components.{Open, IsTop, On, Closed, Within, Passed, TopReady, Reaches, Above, Listed, Components}
+use Rattle.toposort.specs.Components.{Open, IsTop, On, Closed, Within, Passed, TopReady, Reaches, Above, Listed, Components, Extends}
 use Rattle.netlist.proofs.Order.{depends-more, depends-trans}
 use Rattle.netlist.proofs.Loops.{before-set}
 use Rattle.toposort.proofs.Reading.{place-of}
@@ -56,6 +57,10 @@ abbrev pub passed : Scan → Scan
 passed p = record { next = p .next + 1; depth = p .depth; len = p .len; count = p .count; done = p .done; best = p .best }
 
 -- ---- what follows
+
+-- a move that lists nothing
+pub same-order : (order : List ℕ) (p : Scan) → Extends order p order p
+same-order order p = (omega arith, λ i l. refl)
 
 module _ (g : ℕ → Gate) where
   pub reaches-read : {x y z : ℕ} → Reaches g x y → Reads (readsIn g) y z → Depends (readsIn g) x z

@@ -3,4 +3,5 @@ pub mod Tally
 pub mod Components
 pub mod Moves
 pub mod Opening
+pub mod Flops
 pub mod Answers

@@ -4,6 +4,7 @@ use mathlib.Core.Path.{_≡_, sym, ap, _∙_}
 use mathlib.Core.Logic.{_⊎_, inl, inr, ⊎-elim}
 use native.Mathlib.Omega.{arith}
 use lib.ListN.{length, getD, length-set}
+use lib.Seq.{getD-set-other}
 use Rattle.netlist.specs.declared.Gate.{Gate}
 use Rattle.toposort.specs.declared.Read.the-variants.{Signal}
 use Rattle.netlist.specs.Graph.{Reads, Loop, Before}
@@ -14,7 +15,7 @@ use Rattle.toposort.specs.declared.Scan.{Scan}
 use Rattle.toposort.specs.Search.{Search, withBest, cutTo}
 use Rattle.toposort.specs.Components.{Open, IsTop, On, Closed, Within, Passed, Reaches, Components, Moved}
 use Rattle.toposort.proofs.Tally.{same-or-not, stored, tally-keep, room-less}
-use Rattle.toposort.proofs.Components.{below-or-not, marked, finished, merged, reaches-read, depends-reaches}
+use Rattle.toposort.proofs.Components.{below-or-not, marked, finished, merged, same-order, reaches-read, depends-reaches}
 use Rattle.toposort.proofs.Components.{on-or-not, same-place, closed-up, closed-down, inside, stack-on, on-seen, reach-on, listed-keep, listed-add}
 use Rattle.toposort.proofs.Components.{order-room, closed-done, passed-read, judged-on, top-on, top-open, top-below, path-le}
 use Rattle.toposort.proofs.Components.{heads-le, count-some, reach-top, top-loop}
@@ -27,7 +28,7 @@ module _ {g : ℕ → Gate} {N : ℕ} {b : Search} {p : Scan} (s : Components g 
     -- the top's read at place m - 1 is done
     pub raise : (m best′ : ℕ) → next < N → getD marks top 0 ≡ m → (m ≡ lastMark → ⊥) → best′ ≤ best → (best′ < N → Loop (readsIn g) best′)
         → ((i y : ℕ) → suc i ≡ m → readAt g top i ≡ Signal y → Passed b (withBest p best′) top y)
-        → Moved g N marks p (marked b top (m + 1)) (withBest p best′)
+        → Moved g N marks order p (marked b top (m + 1)) (withBest p best′)
     raise m best′ l e d less-or-same bl new = (
       record {
         bounded = s .bounded;
@@ -43,6 +44,9 @@ module _ {g : ℕ → Gate} {N : ℕ} {b : Search} {p : Scan} (s : Components g 
         ended = λ w. absurd (omega arith);
         low = λ z. stored marks top (m + 1) z h (λ _ q. omega (arith, o .left)) (λ _ q. rw q (s .low z));
         started = λ z k. stored marks top (m + 1) z h (λ _ q. omega arith) (λ _ q. rw q (s .started z k));
+        at-places = λ z w. stored marks top (m + 1) z h
+            (λ p q. omega (arith, s .at-places z (rw p o), ap (λ x. getD marks x 0) p))
+            (λ p q. rw q (s .at-places z (record { seen = rw q at (w .seen); left = rw q at (w .left) })));
         placed = record {
           at = s .placed .at;
           seen = λ i k. stored marks top (m + 1) (getD stack i 0) h (λ _ q. omega arith) (λ _ q. rw q (s .placed .seen i k));
@@ -73,6 +77,7 @@ module _ {g : ℕ → Gate} {N : ℕ} {b : Search} {p : Scan} (s : Components g 
         listed = listed-keep s top (m + 1) best′ h (λ w. omega (arith, o .left)) (λ w. omega (arith, o .left)) (λ w. omega (arith, s .best-le));
       },
       omega (arith, room-less marks top (m + 1) h (omega arith) (omega (arith, o .left))),
+      same-order order p,
     )
       where
         h : top < length marks
@@ -96,7 +101,7 @@ module _ {g : ℕ → Gate} {N : ℕ} {b : Search} {p : Scan} (s : Components g 
     pub meet : (m y best′ : ℕ) → next < N → getD marks top 0 ≡ m → (m ≡ lastMark → ⊥) → best′ ≤ best → best′ ≤ top → (best′ ≡ best) ⊎ (best′ ≡ top)
         → Reads (readsIn g) top y → ((i z : ℕ) → suc i ≡ m → readAt g top i ≡ Signal z → z ≡ y)
         → On b p y → getD heads (count - 1) 0 ≤ getD pos y 0
-        → Moved g N marks p (marked b top (m + 1)) (withBest p best′)
+        → Moved g N marks order p (marked b top (m + 1)) (withBest p best′)
     meet m y best′ l e d low low′ which r only o w =
         raise m best′ l e d low
         (λ k. ⊎-elim (λ p. rw p (s .best-loop (omega arith))) (λ p. rw p (top-loop s t y r o)) which)
@@ -110,7 +115,7 @@ module _ {g : ℕ → Gate} {N : ℕ} {b : Search} {p : Scan} (s : Components g 
 
     -- the top reads a signal of an earlier component: the last two components are one
     pub merge : (y : ℕ) → Reads (readsIn g) top y → On b p y → getD pos y 0 < getD heads (count - 1) 0
-        → Moved g N marks p b (merged p)
+        → Moved g N marks order p b (merged p)
     merge y r o below = (
       record {
         bounded = s .bounded;
@@ -119,6 +124,7 @@ module _ {g : ℕ → Gate} {N : ℕ} {b : Search} {p : Scan} (s : Components g 
         ended = s .ended;
         low = s .low;
         started = s .started;
+        at-places = s .at-places;
         placed = s .placed;
         headed = record {
           low = λ k l. s .headed .low k (omega arith);
@@ -140,6 +146,7 @@ module _ {g : ℕ → Gate} {N : ℕ} {b : Search} {p : Scan} (s : Components g 
         listed = s .listed;
       },
       omega (arith, count-some s t),
+      same-order order p,
     )
       where
         two : 0 < count - 1
@@ -163,7 +170,7 @@ module _ {g : ℕ → Gate} {N : ℕ} {b : Search} {p : Scan} (s : Components g 
         → (0 < len′ → 0 < count′)
         → ((i k : ℕ) → i < len′ → k < count → getD heads k 0 ≤ i → k < count′)
         → ((i j : ℕ) → i < len → len′ ≤ i → Within b p i j → len′ ≤ j)
-        → Moved g N marks p (finished b p top) (cutTo p len′ count′)
+        → Moved g N marks order p (finished b p top) (cutTo p len′ count′)
     retire len′ count′ l e len-le top-le fewer keeps some′ only cut = (
       record {
         bounded = s .bounded;
@@ -179,6 +186,9 @@ module _ {g : ℕ → Gate} {N : ℕ} {b : Search} {p : Scan} (s : Components g 
         ended = λ w. absurd (omega arith);
         low = λ z. stored marks top doneMark z h (λ _ q. omega arith) (λ _ q. rw q (s .low z));
         started = λ z k. stored marks top doneMark z h (λ _ q. omega arith) (λ _ q. rw q (s .started z k));
+        at-places = λ z w. stored marks top doneMark z h
+            (λ p q. absurd (omega (arith, w .left)))
+            (λ p q. rw q (s .at-places z (record { seen = rw q at (w .seen); left = rw q at (w .left) })));
         placed = record {
           at = λ i k. s .placed .at i (omega arith);
           seen = λ i k. stored marks top doneMark (getD stack i 0) h (λ _ q. omega arith) (λ _ q. rw q (s .placed .seen i (omega arith)));
@@ -218,6 +228,7 @@ module _ {g : ℕ → Gate} {N : ℕ} {b : Search} {p : Scan} (s : Components g 
         listed = listed-add s top h (λ w. omega arith) (order-room s top (top-below s t) (λ w. omega arith)) top-after len′ count′;
       },
       omega (arith, room-less marks top doneMark h (omega arith) (omega arith)),
+      (omega arith, λ i k. getD-set-other order done i top 0 (λ w. omega arith)),
     )
       where
         h : top < length marks
@@ -281,7 +292,7 @@ module _ {g : ℕ → Gate} {N : ℕ} {b : Search} {p : Scan} (s : Components g 
 
     -- the top is done, and its component goes on
     pub leave : next < N → getD marks top 0 ≡ lastMark → (getD pos top 0 ≡ getD heads (count - 1) 0 → ⊥)
-        → Moved g N marks p (finished b p top) (cutTo p len count)
+        → Moved g N marks order p (finished b p top) (cutTo p len count)
     leave l e d =
         retire len count l e (omega arith) (omega (arith, top-on s t .below)) (omega arith)
         (λ k m. (
@@ -296,7 +307,7 @@ module _ {g : ℕ → Gate} {N : ℕ} {b : Search} {p : Scan} (s : Components g 
 
     -- the top is done, and so is its component, which begins at the top
     pub close : (at : ℕ) → next < N → getD marks top 0 ≡ lastMark → at ≡ getD pos top 0 → getD pos top 0 ≡ getD heads (count - 1) 0
-        → Moved g N marks p (finished b p top) (cutTo p at (count - 1))
+        → Moved g N marks order p (finished b p top) (cutTo p at (count - 1))
     close at l e a d =
         retire at (count - 1) l e (omega (arith, top-on s t .below)) (omega arith) (omega arith)
         (λ k m. let q = s .headed .sorted k (count - 1) m (omega arith) in (omega arith, λ p. omega arith))

@@ -1,21 +1,24 @@
 -- The start of the search, the opening of a signal, the passing of a root, and what the search says at its end. Assumes nothing.
-use Prim.Native.Nat.{ℕ, suc, _+_, _<_, zero-le}
+use Prim.Native.Nat.{ℕ, suc, _+_, _*_, _≤_, _<_, zero-le}
 use mathlib.Core.Path.{_≡_, refl, sym, _∙_}
-use mathlib.Core.Logic.{inl, inr}
+use mathlib.Core.Logic.{inl, inr, ⊎-elim}
 use native.Mathlib.Omega.{arith}
 use lib.ListN.{length, getD, set, length-set}
 use lib.Seq.{getD-set-same, getD-set-other}
 use Rattle.netlist.specs.declared.Gate.{Gate}
-use Rattle.netlist.specs.Graph.{WellFormed, Before}
+use Rattle.netlist.specs.Graph.{Reads, Loop, WellFormed, Before}
+use Rattle.netlist.specs.Graph.Depends.{direct, through}
+use Rattle.netlist.specs.Rule.{sourcesOf}
 use Rattle.netlist.specs.Settle.{readsIn}
+use Rattle.netlist.specs.Table.{signalCount, flopSignal}
 use Rattle.toposort.specs.declared.Read.the-variants.{Signal}
-use Rattle.toposort.specs.Tally.{doneMark}
+use Rattle.toposort.specs.Tally.{lastMark, doneMark}
 use Rattle.toposort.specs.Reading.{readAt}
 use Rattle.toposort.specs.declared.Scan.{Scan}
 use Rattle.toposort.specs.Search.{Search}
-use Rattle.toposort.specs.Components.{Open, Fresh, On, Closed, Passed, Above, Components, Moved, Least}
-use Rattle.toposort.proofs.Tally.{same-or-not, stored, in-list, tally-less, tally-le, tally-all, tally-none, room-less}
-use Rattle.toposort.proofs.Components.{below-or-not, opened, oneMore, passed, inside, stack-on, on-seen, listed-keep}
+use Rattle.toposort.specs.Components.{Open, Sized, FlopsListed, On, Closed, Passed, Above, Components, Moved, Least}
+use Rattle.toposort.proofs.Tally.{same-or-not, stored, in-list, tally-less, tally-le, tally-all, room-less}
+use Rattle.toposort.proofs.Components.{below-or-not, opened, oneMore, passed, same-order, inside, stack-on, on-seen, listed-keep}
 use Rattle.toposort.proofs.Components.{closed-done, empty, depth-le, count-le}
 
 module _ {g : ℕ → Gate} {N : ℕ} {b : Search} {p : Scan} (s : Components g N b p) where
@@ -26,9 +29,10 @@ module _ {g : ℕ → Gate} {N : ℕ} {b : Search} {p : Scan} (s : Components g 
     pub len-lt : len < N
     len-lt = omega (arith, s .placed .fits, tally-less 0 marks y 1 (inside s y h) new (λ p. omega arith))
 
-    pub push : (m : ℕ) → 0 < m → m < doneMark → ((i z : ℕ) → suc i < m → readAt g y i ≡ Signal z → ⊥) → next < N → Above g stack p y
-        → Moved g N marks p (opened b p y m) (oneMore p)
-    push m some few none l into = (
+    pub push : (m : ℕ) → 0 < m → m < doneMark → lastMark ≤ m + length (sourcesOf (g y))
+        → ((i z : ℕ) → suc i < m → readAt g y i ≡ Signal z → ⊥) → next < N → Above g stack p y
+        → Moved g N marks order p (opened b p y m) (oneMore p)
+    push m some few enough none l into = (
       record {
         bounded = s .bounded;
         sized = record {
@@ -43,6 +47,9 @@ module _ {g : ℕ → Gate} {N : ℕ} {b : Search} {p : Scan} (s : Components g 
         ended = λ w. absurd (omega arith);
         low = λ z. stored marks y m z hm (λ _ q. omega arith) (λ _ q. rw q (s .low z));
         started = λ z k. stored marks y m z hm (λ _ q. omega arith) (λ _ q. rw q (s .started z k));
+        at-places = λ z w. stored marks y m z hm
+            (λ p q. rw (q, p) enough)
+            (λ p q. rw q (s .at-places z (record { seen = rw q at (w .seen); left = rw q at (w .left) })));
         placed = record {
           at = λ i k. stored stack len y i hs
               (λ p q. rw (q, p) pos-y)
@@ -105,6 +112,7 @@ module _ {g : ℕ → Gate} {N : ℕ} {b : Search} {p : Scan} (s : Components g 
         listed = listed-keep s y m best hm (λ w. omega arith) (λ w. omega arith) (λ w. w);
       },
       omega (arith, room-less marks y m hm (omega arith) (omega arith)),
+      same-order order p,
     )
       where
         hm : y < length marks
@@ -197,7 +205,7 @@ module _ {g : ℕ → Gate} {N : ℕ} {b : Search} {p : Scan} (s : Components g 
   above-root y e i l = absurd (omega (arith, empty s e))
 
   -- a root that is seen is passed
-  pub pass : next < N → (getD marks next 0 ≡ 0 → ⊥) → depth ≡ 0 → Moved g N marks p b (passed p)
+  pub pass : next < N → (getD marks next 0 ≡ 0 → ⊥) → depth ≡ 0 → Moved g N marks order p b (passed p)
   pass l d e = (
     record {
       bounded = s .bounded;
@@ -206,6 +214,7 @@ module _ {g : ℕ → Gate} {N : ℕ} {b : Search} {p : Scan} (s : Components g 
       ended = λ _. e;
       low = s .low;
       started = λ z m. same-or-not z next (λ p. rw p (omega arith)) (λ p. s .started z (omega arith));
+      at-places = s .at-places;
       placed = s .placed;
       headed = s .headed;
       pathed = s .pathed;
@@ -218,6 +227,7 @@ module _ {g : ℕ → Gate} {N : ℕ} {b : Search} {p : Scan} (s : Components g 
       listed = s .listed;
     },
     omega arith,
+    same-order order p,
   )
 
   -- every root is passed
@@ -243,17 +253,20 @@ module _ {g : ℕ → Gate} {N : ℕ} {b : Search} {p : Scan} (s : Components g 
       full : done ≡ N
       full = s .listed .counted ∙ tally-all doneMark marks (λ x l. closed-done s x (shut x (omega (arith, s .sized .marks)))) ∙ s .sized .marks
 
--- the state at the start
-pub start : (g : ℕ → Gate) (N : ℕ) (b : Search) → WellFormed (readsIn g) N → Fresh N b
-    → Components g N b (record { next = 0; depth = 0; len = 0; count = 0; done = 0; best = N })
-start g N b bounded (sized, unseen) =
+-- the state at the start: the flip-flops are done, and read nothing
+pub start : (g : ℕ → Gate) (n : ℕ) (b : Search) → WellFormed (readsIn g) (signalCount n) → Sized (signalCount n) b
+    → FlopsListed (8 * n) (b .marks) (b .order)
+    → ((q y : ℕ) → q < 8 * n → Reads (readsIn g) (flopSignal q) y → ⊥)
+    → Components g (signalCount n) b (record { next = 0; depth = 0; len = 0; count = 0; done = 8 * n; best = signalCount n })
+start g n b bounded sized flops quiet =
     record {
       bounded = bounded;
       sized = sized;
       next-le = zero-le;
       ended = λ _. refl;
-      low = λ x. omega (arith, unseen x);
+      low = λ x. by x (λ z. omega arith) (λ i l e. omega (arith, is-done x i l e));
       started = λ x l. absurd (omega arith);
+      at-places = λ x o. absurd (unopened x o);
       placed = record {
         at = λ i l. absurd (omega arith);
         seen = λ i l. absurd (omega arith);
@@ -272,19 +285,36 @@ start g N b bounded (sized, unseen) =
         on = λ i l. absurd (omega arith);
         opened = λ i l. absurd (omega arith);
         sorted = λ i j l m. absurd (omega arith);
-        named = λ x o. absurd (omega (arith, o .seen, unseen x));
+        named = λ x o. absurd (unopened x o);
       };
       reach = λ i j l m w. absurd (omega arith);
       looked = λ x i y o l b r. absurd (omega (arith, o .below));
-      closed = λ x y c r. absurd (omega (arith, c .seen, unseen x));
-      judged = λ x c d. absurd (omega (arith, c .seen, unseen x));
+      closed = λ x y c r. absurd (nothing x y (c .seen) r);
+      judged = λ x c d. absurd (alone x (c .seen) d);
       best-le = omega arith;
       best-loop = λ l. absurd (omega arith);
       listed = record {
-        counted = sym (tally-none doneMark (b .marks) (λ i e. omega (arith, unseen i)));
-        finished = λ i l. absurd (omega arith);
-        named = λ x e. absurd (omega (arith, unseen x));
-        once = λ i j l m e. omega arith;
-        after = λ b i y l r. absurd (omega arith);
+        counted = flops .counted;
+        finished = λ i l. rw (flops .first i l) (flops .done i l);
+        named = λ x e. by x (λ z. absurd (omega arith)) (λ i l f. (i, l, flops .first i l ∙ sym f));
+        once = λ i j l m e. omega (arith, flops .first i (omega arith), flops .first j m);
+        after = λ _ i y l r. absurd (quiet i y l (rw (flops .first i l) at r));
       };
     }
+  where
+    by : {C : Type 0} (x : ℕ) → (getD (b .marks) x 0 ≡ 0 → C) → ((i : ℕ) → i < 8 * n → x ≡ flopSignal i → C) → C
+    by x f h = ⊎-elim f (λ w. h (w .0) (w .1) (w .2)) (flops .others x)
+
+    is-done : (x i : ℕ) → i < 8 * n → x ≡ flopSignal i → getD (b .marks) x 0 ≡ doneMark
+    is-done x i l e = rw e (flops .done i l)
+
+    unopened : (x : ℕ) → Open (b .marks) x → ⊥
+    unopened x o = by x (λ z. omega (arith, o .seen)) (λ i l e. omega (arith, o .left, is-done x i l e))
+
+    -- a seen signal reads nothing, so it is on no loop
+    nothing : (x y : ℕ) → 0 < getD (b .marks) x 0 → Reads (readsIn g) x y → ⊥
+    nothing x y l r = by x (λ z. omega arith) (λ i m e. quiet i y m (rw e at r))
+
+    alone : (x : ℕ) → 0 < getD (b .marks) x 0 → Loop (readsIn g) x → ⊥
+    alone x l (direct r) = nothing x _ l r
+    alone x l (through r d) = nothing x _ l r

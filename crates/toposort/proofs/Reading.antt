@@ -1,12 +1,12 @@
 -- The signals that a signal reads are those at its six places, and the gate table has them. Assumes nothing.
-use mathlib.Core.Path.{_≡_, refl, sym, ap}
+use mathlib.Core.Path.{_≡_, refl, sym, ap, _∙_}
 use mathlib.Core.Bool.{Bool, true, false, cond}
 use mathlib.Core.List.{List, [], _∷_, List·Memᴰ}
 use mathlib.Core.List.List·Memᴰ.{List·Memᴰ·head, List·Memᴰ·tail}
 use Prim.Native.Nat.{ℕ, zero, suc, _+_, _*_, _-_, _≤_, _<_}
 use native.Mathlib.Nat.{not-suc-le-zero, le-of-suc-le-suc}
 use native.Mathlib.Omega.{arith}
-use borrow.Author.Tests.{ltb-true, lt-ltb}
+use borrow.Author.Tests.{le-ltb, ne-eqb}
 use lib.Dec.{ltb, eqb, lit≤}
 use lib.ListN.{length, getD}
 use Rattle.netlist.specs.declared.Source.{Source}
@@ -17,7 +17,7 @@ use Rattle.toposort.specs.declared.Read.the-variants.{Signal, Nothing}
 use Rattle.netlist.specs.Rule.{sourcesOf, signalsIn, readsOf}
 use Rattle.netlist.specs.Graph.{Reads}
 use Rattle.netlist.specs.Settle.{readsIn}
-use Rattle.netlist.specs.Table.{rowLength, sourceOf, gateWith, gateOf}
+use Rattle.netlist.specs.Table.{rowLength, sourceOf, selectHead, storedHead, gateWith, gateOf, flopSignal, FlopRows}
 use Rattle.toposort.specs.Reading.{asRead, readIn, readAt, headOf, placeCount, firstMark}
 
 -- a signal among sources has a place
@@ -86,41 +86,48 @@ first-out zero p i h = refl
 first-out (suc k) p zero h = absurd (not-suc-le-zero h)
 first-out (suc k) p (suc i) h = first-out k (λ j. p (suc j)) i (le-of-suc-le-suc h)
 
+first-length : (k : ℕ) (p : ℕ → Source) → length (first k p) ≡ k
+unfolding first
+first-length zero p = refl
+first-length (suc k) p = ap suc (first-length k (λ i. p (suc i)))
+
 -- a gate of the table reads its first sources, as many as its head says
 first-sources : (n head : ℕ) (p : ℕ → Source) → sourcesOf (gateWith n head p) ≡ first (placeCount n head) p
 unfolding sourcesOf gateWith placeCount first
 first-sources n head p =
-    by (ltb head (4 * n)) (ltb head (8 * n)) (ltb head (16 * n)) (eqb head (16 * n)) (eqb head (16 * n + 1))
-    (λ e. lt-ltb head (16 * n) (omega (arith, ltb-true head (8 * n) e)))
+    by (ltb head (4 * n)) (ltb head (selectHead n)) (eqb head (selectHead n)) (eqb head (selectHead n + 1)) (eqb head (selectHead n + 2))
   where
     by :
-        (a b c d e : Bool) → (b ≡ true → c ≡ true)
+        (a b c d e : Bool)
         → sourcesOf
         (cond a (Lut head (p 1) (p 2) (p 3) (p 4) (p 5) (p 6))
         (cond b (ZeroOf (head - 4 * n))
-        (cond c (Stored (head - 8 * n)) (cond d (Select (p 1) (p 2) (p 3)) (cond e (Xor (p 1) (p 2)) (Same (p 1)))))))
-        ≡ first (cond a 6 (cond c 0 (cond d 3 (cond e 2 1)))) p
-    by true b c d e h = refl
-    by false true c d e h = rw (h refl)
-    by false false true d e h = refl
-    by false false false true e h = refl
-    by false false false false true h = refl
-    by false false false false false h = refl
+        (cond c (Select (p 1) (p 2) (p 3)) (cond d (Xor (p 1) (p 2)) (cond e (Same (p 1)) (Stored (head - storedHead n)))))))
+        ≡ first (cond a 6 (cond b 0 (cond c 3 (cond d 2 (cond e 1 0))))) p
+    by true b c d e = refl
+    by false true c d e = refl
+    by false false true d e = refl
+    by false false false true e = refl
+    by false false false false true = refl
+    by false false false false false = refl
 
 module _ (table : List ℕ) (n x : ℕ) where
   abbrev head : ℕ
   head = headOf table x
 
   abbrev source : ℕ → Source
-  source i = sourceOf (getD table (rowLength * x + i) 0)
+  source i = sourceOf n (getD table (rowLength * x + i) 0)
 
-  -- source k of a row is read as what it is, where the head counts it
-  pub counted-source : (k : ℕ) → k < placeCount n head
-      → readIn (sourcesOf (gateOf table n x)) k ≡ asRead (sourceOf (getD table (rowLength * x + 1 + k) 0))
+  -- a gate has as many sources as its head says
+  pub places : length (sourcesOf (gateOf table n x)) ≡ placeCount n head
   unfolding gateOf
-  counted-source k h =
-      let e : rowLength * x + 1 + k ≡ rowLength * x + suc k = omega arith in
-      rw (first-sources n head source, e) (first-in (placeCount n head) source k h)
+  places = ap length (first-sources n head source) ∙ first-length (placeCount n head) source
+
+  -- source k of a row is read as what it is, where the gate has it
+  pub counted-source : (k : ℕ) → k < length (sourcesOf (gateOf table n x))
+      → readIn (sourcesOf (gateOf table n x)) k ≡ asRead (sourceOf n (getD table (rowLength * x + suc k) 0))
+  unfolding gateOf
+  counted-source k h = rw (first-sources n head source) (first-in (placeCount n head) source k (rw places at h))
 
   -- and as nothing elsewhere
   pub other-source : (k : ℕ) → placeCount n head ≤ k → readIn (sourcesOf (gateOf table n x)) k ≡ Nothing
@@ -129,15 +136,32 @@ module _ (table : List ℕ) (n x : ℕ) where
 
 pub places-most : (n head : ℕ) → placeCount n head ≤ 6
 unfolding placeCount
-places-most n head = by (ltb head (4 * n)) (ltb head (16 * n)) (eqb head (16 * n)) (eqb head (16 * n + 1))
+places-most n head =
+    by (ltb head (4 * n)) (ltb head (selectHead n)) (eqb head (selectHead n)) (eqb head (selectHead n + 1)) (eqb head (selectHead n + 2))
   where
-    by : (a b c d : Bool) → cond a 6 (cond b 0 (cond c 3 (cond d 2 1))) ≤ 6
-    by true b c d = lit≤ tt
-    by false true c d = lit≤ tt
-    by false false true d = lit≤ tt
-    by false false false true = lit≤ tt
-    by false false false false = lit≤ tt
+    by : (a b c d e : Bool) → cond a 6 (cond b 0 (cond c 3 (cond d 2 (cond e 1 0)))) ≤ 6
+    by true b c d e = lit≤ tt
+    by false true c d e = lit≤ tt
+    by false false true d e = lit≤ tt
+    by false false false true e = lit≤ tt
+    by false false false false true = lit≤ tt
+    by false false false false false = lit≤ tt
 
 -- nothing is read before the first mark
 pub none-before : (table : List ℕ) (n x i y : ℕ) → suc i < firstMark n (headOf table x) → readAt (gateOf table n) x i ≡ Signal y → ⊥
 none-before table n x i y h r = not-both (gateOf table n) x i y (other-source table n x (5 - i) (omega arith)) r
+
+-- a flip-flop has no places
+flop-places : (n q : ℕ) → placeCount n (storedHead n + q) ≡ 0
+unfolding placeCount
+flop-places n q =
+    let h = selectHead n in
+    let k = storedHead n + q in
+    rw (le-ltb k (4 * n) (omega arith), le-ltb k h (omega arith), ne-eqb k h (λ e. omega arith), ne-eqb k (h + 1) (λ e. omega arith), ne-eqb k (h + 2) (λ e. omega arith))
+
+-- so its signal reads nothing
+pub flop-reads : (table : List ℕ) (n : ℕ) → FlopRows n table → (q y : ℕ) → q < 8 * n → Reads (readsIn (gateOf table n)) (flopSignal q) y → ⊥
+flop-reads table n rows q y h r =
+    let w = place-of (gateOf table n) (flopSignal q) y r in
+    let none : placeCount n (headOf table (flopSignal q)) ≡ 0 = rw (rows q h) (flop-places n q) in
+    not-both (gateOf table n) (flopSignal q) (w .0) y (other-source table n (flopSignal q) (5 - w .0) (omega arith)) (w .2)

@@ -6,8 +6,9 @@ use Rattle.toposort.specs.declared.Sorted.{Sorted}
 use Rattle.toposort.specs.declared.Sorted.the-variants.{Loop as LoopAt, Done}
 use Rattle.netlist.specs.Graph.{Loop, Ordered}
 use Rattle.netlist.specs.Settle.{readsIn}
+use Rattle.netlist.specs.Table.{signalCount, FlopsFirst}
 
--- "the smallest signal on a loop", or a topological order, which shows that there is none
+-- of n slices: "the smallest signal on a loop", or a topological order, which shows that there is none, with the flip-flops first
 abbrev pub OrderOrLoop : (ℕ → Gate) → ℕ → List ℕ → Sorted → Type 0
-OrderOrLoop g N order (LoopAt x) = (x < N) × Loop (readsIn g) x × ((y : ℕ) → y < x → Loop (readsIn g) y → ⊥)
-OrderOrLoop g N order Done = Ordered (readsIn g) N order
+OrderOrLoop g n order (LoopAt x) = (x < signalCount n) × Loop (readsIn g) x × ((y : ℕ) → y < x → Loop (readsIn g) y → ⊥)
+OrderOrLoop g n order Done = Ordered (readsIn g) (signalCount n) order × FlopsFirst n order

@@ -10,7 +10,9 @@ use Rattle.toposort.specs.declared.Scan.{Scan}
 use Rattle.toposort.specs.declared.Turn.{Turn}
 use Rattle.toposort.specs.declared.Turn.the-variants.{Close, Leave, Raise, Open as OpenUnseen, Merge, Meet}
 use Rattle.netlist.specs.Graph.{Reads, Depends, Loop, WellFormed, Before, Ordered}
+use Rattle.netlist.specs.Rule.{sourcesOf}
 use Rattle.netlist.specs.Settle.{readsIn}
+use Rattle.netlist.specs.Table.{flopSignal}
 use Rattle.toposort.specs.Reading.{readAt}
 use Rattle.toposort.specs.Tally.{lastMark, doneMark, tally, room}
 use Rattle.toposort.specs.Search.{Search}
@@ -19,6 +21,10 @@ use Rattle.toposort.specs.Search.{Search}
 pub record Open (marks : List ℕ) (x : ℕ) : Type 0 where
   pub seen : 0 < getD marks x 0
   pub left : getD marks x 0 < doneMark
+
+-- the mark of an open signal is at a place that its gate has, or past them
+abbrev pub AtPlaces : (ℕ → Gate) → List ℕ → Type 0
+AtPlaces g marks = (x : ℕ) → Open marks x → lastMark ≤ getD marks x 0 + length (sourcesOf (g x))
 
 -- buffers of N signals: each has an entry a signal
 abbrev pub Sized : ℕ → Search → Type 0
@@ -32,9 +38,20 @@ Sized N b =
       order : length (b .order) ≡ N;
     }
 
+-- no signal is seen
+abbrev pub Unseen : List ℕ → Type 0
+Unseen marks = (x : ℕ) → getD marks x 0 ≡ 0
+
 -- buffers of N signals, none of them seen
 abbrev pub Fresh : ℕ → Search → Type 0
-Fresh N b = Sized N b × ((x : ℕ) → getD (b .marks) x 0 ≡ 0)
+Fresh N b = Sized N b × Unseen (b .marks)
+
+-- the first q flip-flops are listed and done, and no other signal is seen
+pub record FlopsListed (q : ℕ) (marks order : List ℕ) : Type 0 where
+  pub first : (i : ℕ) → i < q → getD order i 0 ≡ flopSignal i
+  pub done : (i : ℕ) → i < q → getD marks (flopSignal i) 0 ≡ doneMark
+  pub others : (x : ℕ) → (getD marks x 0 ≡ 0) ⊎ ((i : ℕ) × (i < q) × (x ≡ flopSignal i))
+  pub counted : q ≡ tally doneMark marks
 
 -- top is the last open signal
 abbrev pub IsTop : List ℕ → Scan → ℕ → Type 0
@@ -146,6 +163,7 @@ module _ (g : ℕ → Gate) (N : ℕ) (b : Search) (p : Scan) where
     pub ended : next ≡ N → depth ≡ 0
     pub low : (x : ℕ) → getD marks x 0 ≤ doneMark
     pub started : (x : ℕ) → x < next → 0 < getD marks x 0
+    pub at-places : AtPlaces g marks
     pub placed : Placed N b p
     pub headed : Headed b p
     pub pathed : Pathed b p
@@ -175,10 +193,15 @@ module _ (g : ℕ → Gate) (N : ℕ) (b : Search) (p : Scan) where
 abbrev pub remaining : ℕ → List ℕ → Scan → ℕ
 remaining N marks p = 2 * room marks + p .count + (N - p .next)
 
+-- an order keeps what it lists, and lists no less
+abbrev pub Extends : List ℕ → Scan → List ℕ → Scan → Type 0
+Extends old p order q = (p .done ≤ q .done) × ((i : ℕ) → i < p .done → getD order i 0 ≡ getD old i 0)
+
 module _ (g : ℕ → Gate) (N : ℕ) where
-  -- what a step from the marks old and from p leaves
-  abbrev pub Moved : List ℕ → Scan → Search → Scan → Type 0
-  Moved old p b q = Components g N b q × (remaining N (b .marks) q < remaining N old p)
+  -- what a step from these marks, this order and p leaves
+  abbrev pub Moved : List ℕ → List ℕ → Scan → Search → Scan → Type 0
+  Moved marks order p b q =
+      Components g N b q × (remaining N (b .marks) q < remaining N marks p) × Extends order p (b .order) q
 
   -- best is the smallest signal below N that is on a loop, or N, and then the order is topological
   pub record Least (order : List ℕ) (best : ℕ) : Type 0 where

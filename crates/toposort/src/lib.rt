@@ -1,19 +1,21 @@
 // One path-based search for strongly connected components over a gate table, with no recursion.
 ghost use mathlib.Core.Path.{_≡_};
-ghost use Prim.Native.Nat.{_+_, _≤_, _<_};
+ghost use Prim.Native.Nat.{_+_, _*_, _≤_, _<_};
 ghost use mathlib.Core.Logic.{_⊎_};
 ghost use lib.ListN.{length, getD, set};
 ghost use Rattle.lent.specs.Lent.{was, left};
 ghost use Rattle.netlist.specs.Graph.{WellFormed};
 ghost use Rattle.netlist.specs.Settle.{readsIn};
-ghost use Rattle.netlist.specs.Table.{signalLimit, signalCount, IsTable, sourceOf, gateOf};
+ghost use Rattle.netlist.specs.Table.{signalLimit, signalCount, IsTable, sourceOf, gateOf, FlopRows, FlopsFirst};
 ghost use Rattle.toposort.specs.Tally.{doneMark};
-ghost use Rattle.toposort.specs.Reading.{asRead, readAt, headOf, placeCount, firstMark};
+ghost use Rattle.toposort.specs.Reading.{asRead, readAt, HasPlace, headOf, placeCount, firstMark};
 ghost use Rattle.toposort.specs.Answer.{OrderOrLoop};
 ghost use Rattle.toposort.specs.Search.{searchIn, searchOut, stackIn, stackWas, withBest, cutTo};
-ghost use Rattle.toposort.specs.Components.{Fresh, IsTop, TopReady, Above, Components, Wants, Moved, Least};
+ghost use Rattle.toposort.specs.Components.{Unseen, Fresh, FlopsListed, AtPlaces, IsTop, TopReady, Above, Components, Wants, Moved, Least};
+use netlist::FIRST_FLOP;
 use netlist::ROW;
 use netlist::SIGNAL_LIMIT;
+use netlist::SIGNAL_WIRE;
 use netlist::SLICE_SIGNALS;
 
 // The mark of an open signal whose six reads are done, and the mark of a done one.
@@ -45,15 +47,17 @@ fn wide16(x: u16) -> usize
     x as usize
 }
 
-// What is read where a source has this code.
-fn read_of(code: usize) -> Read
-    ensures { λ r. ⌜ r ≡ asRead (sourceOf code) ⌝ }
+// What is read where a source has this number.
+fn read_of(n: usize, code: usize) -> Read
+    requires { ⌜ signalCount n ≤ signalLimit ⌝ }
+    ensures { λ r. ⌜ r ≡ asRead (sourceOf n code) ⌝ }
 {
-    if code < 4096 {
-        Read::Nothing
-    } else {
-        Read::Signal(code - 4096)
+    let signal = (SIGNAL_WIRE <= code) & (code < SIGNAL_WIRE + SLICE_SIGNALS * n);
+    if signal {
+        let y = code - SIGNAL_WIRE;
+        return Read::Signal(y);
     }
+    Read::Nothing
 }
 
 // How many sources a gate with this head reads.
@@ -63,30 +67,27 @@ fn place_count(n: usize, head: usize) -> usize
 {
     if head < 4 * n {
         6
-    } else if head < 16 * n {
+    } else if head < 8 * n {
         0
-    } else if head == 16 * n {
+    } else if head == 8 * n {
         3
-    } else if head == 16 * n + 1 {
+    } else if head == 8 * n + 1 {
         2
-    } else {
+    } else if head == 8 * n + 2 {
         1
+    } else {
+        0
     }
 }
 
-// What signal x reads at place i, from its sixth source down to its first.
+// What signal x reads at place i, which its gate has, from its sixth source down to its first.
 fn read_at(table: &[u16], n: usize, x: usize, i: usize) -> Read
-    requires { ⌜ IsTable n (now table) × (x < signalCount n) × (i < 6) ⌝ }
+    requires { ⌜ IsTable n (now table) × (x < signalCount n) × (i < 6) × HasPlace (gateOf (now table) n) x i ⌝ }
     ensures { λ r. ⌜ r ≡ readAt (gateOf (was table) n) x i ⌝ }
 {
-    let at = ROW * x;
-    let head = wide16(table[at]);
-    let source = 5 - i;
-    if source < place_count(n, head) {
-        let code = wide16(table[at + 1 + source]);
-        return read_of(code);
-    }
-    Read::Nothing
+    let at = ROW * x + (6 - i);
+    let code = wide16(table[at]);
+    read_of(n, code)
 }
 
 // The mark of signal x when it is opened, past the places that its gate doesn't have.
@@ -133,7 +134,7 @@ fn next_turn(
     p: Scan,
     top: usize,
 ) -> Turn
-    requires { ⌜ IsTable n (now table) × WellFormed (readsIn (gateOf (now table) n)) (signalCount n) ⌝ }
+    requires { ⌜ IsTable n (now table) × WellFormed (readsIn (gateOf (now table) n)) (signalCount n) × AtPlaces (gateOf (now table) n) (now marks) ⌝ }
     requires { ⌜ TopReady (signalCount n) (stackIn marks pos stack heads) p top ⌝ }
     ensures { λ r. ⌜ Wants (gateOf (was table) n) (signalCount n) (stackWas marks pos stack heads) p top r ⌝ }
 {
@@ -185,7 +186,7 @@ fn open_signal(
     requires { ⌜ Components (gateOf (now table) n) (signalCount n) (searchIn marks pos stack heads path order) p ⌝ }
     requires { ⌜ IsTable n (now table) × (p .next < signalCount n) × (y < signalCount n) × (getD (now marks) y 0 ≡ 0) ⌝ }
     requires { ⌜ Above (gateOf (now table) n) (now stack) p y ⌝ }
-    ensures { λ r. ⌜ Moved (gateOf (was table) n) (signalCount n) (was marks) p (searchOut marks pos stack heads path order) r ⌝ }
+    ensures { λ r. ⌜ Moved (gateOf (was table) n) (signalCount n) (was marks) (was order) p (searchOut marks pos stack heads path order) r ⌝ }
 {
     let len = p.len;
     let count = p.count;
@@ -264,7 +265,7 @@ fn take_turn(
 ) -> Scan
     requires { ⌜ Components (gateOf (now table) n) (signalCount n) (searchIn marks pos stack heads path order) p ⌝ }
     requires { ⌜ IsTable n (now table) × (p .next < signalCount n) × IsTop (now path) p top ⌝ }
-    ensures { λ r. ⌜ Moved (gateOf (was table) n) (signalCount n) (was marks) p (searchOut marks pos stack heads path order) r ⌝ }
+    ensures { λ r. ⌜ Moved (gateOf (was table) n) (signalCount n) (was marks) (was order) p (searchOut marks pos stack heads path order) r ⌝ }
 {
     let len = p.len;
     let count = p.count;
@@ -297,7 +298,7 @@ fn scan_step(
 ) -> Scan
     requires { ⌜ Components (gateOf (now table) n) (signalCount n) (searchIn marks pos stack heads path order) p ⌝ }
     requires { ⌜ IsTable n (now table) × (p .next < signalCount n) ⌝ }
-    ensures { λ r. ⌜ Moved (gateOf (was table) n) (signalCount n) (was marks) p (searchOut marks pos stack heads path order) r ⌝ }
+    ensures { λ r. ⌜ Moved (gateOf (was table) n) (signalCount n) (was marks) (was order) p (searchOut marks pos stack heads path order) r ⌝ }
 {
     let next = p.next;
     let depth = p.depth;
@@ -314,6 +315,22 @@ fn scan_step(
     q
 }
 
+// Lists the signals of the flip-flops, which read nothing, ascending, and marks them as done.
+fn list_flops(n: usize, marks: &mut [u8], order: &mut [u16])
+    requires { ⌜ (signalCount n ≤ signalLimit) × (length (now marks) ≡ signalCount n) × (length (now order) ≡ signalCount n) ⌝ }
+    requires { ⌜ Unseen (now marks) ⌝ }
+    ensures { λ _. ⌜ FlopsListed (8 * n) (left marks) (left order) ⌝ }
+{
+    let count = 8 * n;
+    let mut q = 0;
+    while q < count {
+        let x = SLICE_SIGNALS * (q / 8) + (FIRST_FLOP + q % 8);
+        marks[x] = DONE_MARK;
+        order[q] = x as u16;
+        q += 1;
+    }
+}
+
 // The smallest signal on a loop, or the number of signals and a topological order, by a search from marks that are all zero.
 fn scan_all(
     table: &[u16],
@@ -326,16 +343,18 @@ fn scan_all(
     order: &mut [u16],
 ) -> usize
     requires { ⌜ IsTable n (now table) × WellFormed (readsIn (gateOf (now table) n)) (signalCount n) ⌝ }
-    requires { ⌜ Fresh (signalCount n) (searchIn marks pos stack heads path order) ⌝ }
-    ensures { λ r. ⌜ Least (gateOf (was table) n) (signalCount n) (left order) r ⌝ }
+    requires { ⌜ FlopRows n (now table) × Fresh (signalCount n) (searchIn marks pos stack heads path order) ⌝ }
+    ensures { λ r. ⌜ Least (gateOf (was table) n) (signalCount n) (left order) r × FlopsFirst n (left order) ⌝ }
 {
     let size = SLICE_SIGNALS * n;
+    let flops = 8 * n;
+    list_flops(n, marks, order);
     let mut p = Scan {
         next: 0,
         depth: 0,
         len: 0,
         count: 0,
-        done: 0,
+        done: flops,
         best: size,
     };
     while p.next < size {
@@ -344,11 +363,11 @@ fn scan_all(
     p.best
 }
 
-// The smallest signal on a loop, or a topological order, of the netlist of n slices in the gate table, in time linear in n.
+// The smallest signal on a loop, or a topological order with the flip-flops first, of the netlist of n slices in the gate table, in time linear in n.
 pub fn order_or_loop(table: &[u16], n: usize, order: &mut [u16]) -> Sorted
-    requires { ⌜ IsTable n (now table) × (length (now order) ≡ signalCount n) ⌝ }
+    requires { ⌜ IsTable n (now table) × FlopRows n (now table) × (length (now order) ≡ signalCount n) ⌝ }
     requires { ⌜ WellFormed (readsIn (gateOf (now table) n)) (signalCount n) ⌝ }
-    ensures { λ r. ⌜ OrderOrLoop (gateOf (was table) n) (signalCount n) (left order) r ⌝ }
+    ensures { λ r. ⌜ OrderOrLoop (gateOf (was table) n) n (left order) r ⌝ }
 {
     let mut marks = [0u8; SIGNAL_LIMIT];
     let mut pos = [0u16; SIGNAL_LIMIT];

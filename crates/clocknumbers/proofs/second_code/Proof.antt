@@ -1,6 +1,10 @@
 -- `clocknumbers::second_code` meets its contract. Assumes nothing.
+use native.Mathlib.Omega.{arith}
 use borrow.Author.Tests.{eq-eqb, ne-eqb}
 use borrow.Author.Needs.{needs}
+use Rattle.netlist.specs.Table.{codeOf}
+use Rattle.slicefile.specs.Format.{bypassPin}
+use Rattle.sources.proofs.PinLaws.{pin-at}
 use Rattle.series7.specs.Edge.{secondSource}
 use Rattle.clocknumbers.proofs.second_code.Statement.{statement}
 use Rattle.clocknumbers.proofs.second_code.Tie as tie
@@ -11,25 +15,31 @@ add-if1 c = search needs
 shared-slice-read-if1 : tie.Need-shared-slice-read-if1
 shared-slice-read-if1 c = search needs
 
-add-own-code : tie.Need-add-own-code
-add-own-code c = search needs
+add-own-number : tie.Need-add-own-number
+add-own-number c = search needs
 
-own-code-requires : tie.Need-own-code-requires
-own-code-requires c κs = search needs
+own-number-requires : tie.Need-own-number-requires
+own-number-requires c κs = search needs
 
 returns : tie.Need-returns
-unfolding secondSource
-returns c = search (needs, eq-eqb, c .own-code .ensures)
+unfolding codeOf secondSource
+returns c = search (needs, eq-eqb, c .own-number .ensures)
 
-add-pin-code : tie.Need-add-pin-code
-add-pin-code c = search needs
+add-result : tie.Need-add-result
+add-result c = search needs
 
-pin-code-requires : tie.Need-pin-code-requires
-pin-code-requires c κs = search needs
+mul-result : tie.Need-mul-result
+mul-result c = search needs
+
+element-copy-out-result : tie.Need-element-copy-out-result
+element-copy-out-result c = search needs
 
 returns-2 : tie.Need-returns-2
 unfolding secondSource
-returns-2 c = search (needs, ne-eqb, c .pin-code .ensures)
+returns-2 c =
+    let s = c .before .before .before .before in
+    let a = s .args in
+    search (needs, ne-eqb, pin-at (a .n) (a .m) (a .body .now) (s .pre .0 .3) (bypassPin (a .l)) (omega arith))
 
 pub second-code-spec : {M : Type 1} → statement M
 second-code-spec =
@@ -37,9 +47,10 @@ second-code-spec =
     (tie.spec
     add-if1
     shared-slice-read-if1
-    add-own-code
-    own-code-requires
+    add-own-number
+    own-number-requires
     returns
-    add-pin-code
-    pin-code-requires
+    add-result
+    mul-result
+    element-copy-out-result
     returns-2)

@@ -120,7 +120,13 @@ sub-read-at : tie.Need-sub-read-at
 sub-read-at c = search needs
 
 read-at-requires : tie.Need-read-at-requires
-read-at-requires c κs = search needs
+read-at-requires c κs =
+    let s = c .before .before .before .before .before .before .before .before .before .before .before in
+    let o = s .pre .1 .top-open in
+    let has = s .pre .0 .2 (s .args .top) o in
+    let e = c .wide8 .ensures in
+    let d = c .before .if1 .left in
+    (s .pre .0 .0, s .pre .1 .top-below, omega arith, omega arith)
 
 enum-told : tie.Need-enum-told
 enum-told c = search needs

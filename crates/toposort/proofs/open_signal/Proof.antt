@@ -6,7 +6,7 @@ use Rattle.netlist.specs.Table.{signalCount}
 use Rattle.toposort.specs.Reading.{headOf}
 use Rattle.toposort.proofs.Components.{depth-le, count-le}
 use Rattle.toposort.proofs.Opening.{len-lt, push}
-use Rattle.toposort.proofs.Reading.{places-most, none-before}
+use Rattle.toposort.proofs.Reading.{places, places-most, none-before}
 use borrow.Author.Needs.{needs}
 use Rattle.toposort.proofs.open_signal.Statement.{statement}
 use Rattle.toposort.proofs.open_signal.Tie as tie
@@ -94,7 +94,8 @@ returns c =
     let s = start c in
     let most = places-most (s .args .n) (headOf (now (s .args .table)) (s .args .y)) in
     let e = c .first-mark .ensures in
-    push (s .pre .0) _ (s .pre .1 .0 .2) (s .pre .1 .0 .3) _ (omega arith) (omega arith)
+    let has = places (now (s .args .table)) (s .args .n) (s .args .y) in
+    push (s .pre .0) _ (s .pre .1 .0 .2) (s .pre .1 .0 .3) _ (omega arith) (omega arith) (omega arith)
     (λ i z h r. none-before (now (s .args .table)) (s .args .n) (s .args .y) i z (omega arith) r) (s .pre .1 .0 .1) (s .pre .1 .1)
 
 pub open-signal-spec : {M : Type 1} → statement M

@@ -54,15 +54,15 @@ scan-all-requires c κs =
     let z = take N (zeros signalLimit) in
     let e = sym (part b) in
     let bs = searchOf z z z z z (now (b .args .order)) in
-    let sized : Sized N bs = record { marks = e; pos = e; stack = e; heads = e; path = e; order = b .pre .0 .1 } in
-    ((b .pre .0 .0, b .pre .1), (sized, zeros-all signalLimit N))
+    let sized : Sized N bs = record { marks = e; pos = e; stack = e; heads = e; path = e; order = b .pre .0 .2 } in
+    ((b .pre .0 .0, b .pre .1), (b .pre .0 .1, (sized, zeros-all signalLimit N)))
 
 same-length : tie.Need-same-length
 same-length c = search needs
 
 returns : tie.Need-returns
 returns c =
-    let s = c .before .before .before .before .before .before .before .before .scan-all .ensures in
+    let s = c .before .before .before .before .before .before .before .before .scan-all .ensures .0 in
     (c .if1 .taken, s .loops (c .if1 .taken), s .least)
 
 same-length-2 : tie.Need-same-length-2
@@ -71,7 +71,7 @@ same-length-2 c = search needs
 returns-2 : tie.Need-returns-2
 returns-2 c =
     let s = c .before .before .before .before .before .before .before .before .scan-all .ensures in
-    s .ordered (omega (arith, s .best-le, c .if1 .left))
+    (s .0 .ordered (omega (arith, s .0 .best-le, c .if1 .left)), s .1)
 
 pub order-or-loop-spec : {M : Type 1} → statement M
 order-or-loop-spec =

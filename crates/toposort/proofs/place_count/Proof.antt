@@ -20,6 +20,12 @@ mul-if4 c = search needs
 add-if4 : tie.Need-add-if4
 add-if4 c = search needs
 
+mul-if5 : tie.Need-mul-if5
+mul-if5 c = search needs
+
+add-if5 : tie.Need-add-if5
+add-if5 c = search needs
+
 returns : tie.Need-returns
 unfolding placeCount
 returns c = simp (lt-ltb _ _ (c .if1 .taken))
@@ -41,8 +47,14 @@ returns-4 c =
 returns-5 : tie.Need-returns-5
 unfolding placeCount
 returns-5 c =
-    let b = c .before .before in
-    simp (le-ltb _ _ (b .before .if1 .left), le-ltb _ _ (b .if2 .left), ne-eqb _ _ (c .before .if3 .left), ne-eqb _ _ (c .if4 .left))
+    let b = c .before .before .before in
+    simp (le-ltb _ _ (b .before .if1 .left), le-ltb _ _ (b .if2 .left), ne-eqb _ _ (c .before .before .if3 .left), ne-eqb _ _ (c .before .if4 .left), eq-eqb _ _ (c .if5 .taken))
+
+returns-6 : tie.Need-returns-6
+unfolding placeCount
+returns-6 c =
+    let b = c .before .before .before in
+    simp (le-ltb _ _ (b .before .if1 .left), le-ltb _ _ (b .if2 .left), ne-eqb _ _ (c .before .before .if3 .left), ne-eqb _ _ (c .before .if4 .left), ne-eqb _ _ (c .if5 .left))
 
 pub place-count-spec : {M : Type 1} → statement M
 place-count-spec =
@@ -53,8 +65,11 @@ place-count-spec =
     mul-if3
     mul-if4
     add-if4
+    mul-if5
+    add-if5
     returns
     returns-2
     returns-3
     returns-4
-    returns-5)
+    returns-5
+    returns-6)

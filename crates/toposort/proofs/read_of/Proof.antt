@@ -1,29 +1,44 @@
--- `toposort::read_of` meets its contract: a code below 4096 is no signal. Assumes nothing.
-use mathlib.Core.Path.{_≡_, refl, sym}
-use mathlib.Core.Bool.{Bool, true, false, cond}
+-- `toposort::read_of` meets its contract: its test is whether the number is a signal's wire. Assumes nothing.
+use mathlib.Core.Path.{_≡_}
+use mathlib.Core.Bool.{cond, _&&_, false≢true}
 use Prim.Native.Nat.{ℕ, _-_}
-use native.Mathlib.Omega.{arith}
-use borrow.Author.Tests.{lt-ltb, le-ltb}
-use lib.Dec.{eqb, ltb}
-use Rattle.toposort.specs.declared.Read.the-variants.{Nothing}
-use Rattle.netlist.specs.declared.Source.the-variants.{Constant, Input}
-use Rattle.netlist.specs.Table.{sourceOf}
+use borrow.Author.Tests.{lt-ltb, le-ltb, le-leb, lt-leb}
+use lib.Dec.{leb, ltb}
+use Rattle.toposort.specs.declared.Read.the-variants.{Signal, Nothing}
+use Rattle.netlist.specs.Table.{signalWire, inputWire, sourceOf}
 use Rattle.toposort.specs.Reading.{asRead}
+use Rattle.toposort.proofs.Components.{below-or-not}
+use borrow.Author.Needs.{needs}
 use Rattle.toposort.proofs.read_of.Statement.{statement}
 use Rattle.toposort.proofs.read_of.Tie as tie
 
-no-signal : (constant : Bool) (code : ℕ) → asRead (cond constant (Constant (eqb code 1)) (Input (code - 256))) ≡ Nothing
-unfolding asRead
-no-signal true code = refl
-no-signal false code = refl
+by-test :
+    (n code : ℕ) → cond (leb signalWire code && ltb code (inputWire n)) (Signal (code - signalWire)) Nothing ≡ asRead (sourceOf n code)
+unfolding sourceOf asRead
+by-test n code =
+    below-or-not code signalWire
+    (λ l. rw (lt-leb signalWire code l, lt-ltb code signalWire l))
+    (λ l. below-or-not code (inputWire n)
+    (λ m. rw (le-leb signalWire code l, le-ltb code signalWire l, lt-ltb code (inputWire n) m))
+    (λ m. rw (le-leb signalWire code l, le-ltb code signalWire l, le-ltb code (inputWire n) m)))
+
+mul-signal : tie.Need-mul-signal
+mul-signal c = search needs
+
+add-signal : tie.Need-add-signal
+add-signal c = search needs
+
+sub-y : tie.Need-sub-y
+sub-y c =
+    below-or-not (c .before .args .code) signalWire
+    (λ l. absurd (false≢true (rw (lt-leb signalWire (c .before .args .code) l) at (c .if1 .taken))))
+    (λ l. l)
 
 returns : tie.Need-returns
-unfolding sourceOf
-returns c = rw (lt-ltb _ 4096 (c .if1 .taken)) (sym (no-signal (ltb (c .before .args .code) 256) (c .before .args .code)))
+returns c = rw (c .if1 .taken) at (by-test (c .before .args .n) (c .before .args .code))
 
 returns-2 : tie.Need-returns-2
-unfolding sourceOf asRead
-returns-2 c = rw (le-ltb (c .before .args .code) 256 (omega (arith, c .if1 .left)), le-ltb _ 4096 (c .if1 .left))
+returns-2 c = rw (c .if1 .left) at (by-test (c .before .args .n) (c .before .args .code))
 
 pub read-of-spec : {M : Type 1} → statement M
-read-of-spec = tie.close (tie.spec returns returns-2)
+read-of-spec = tie.close (tie.spec mul-signal add-signal sub-y returns returns-2)

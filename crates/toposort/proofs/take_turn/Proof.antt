@@ -56,7 +56,7 @@ may-raise b = let r = top-ready b in (omega (arith, r), omega (arith, r, b .pre 
 next-turn-requires : tie.Need-next-turn-requires
 next-turn-requires c κs =
     let b = c .before .before .before .before .before .before .before .before .before .before .before in
-    ((b .pre .1 .0, b .pre .0 .bounded), top-ready b)
+    ((b .pre .1 .0, b .pre .0 .bounded, b .pre .0 .at-places), top-ready b)
 
 enum-known-at : tie.Need-enum-known-at
 enum-known-at c = search needs
