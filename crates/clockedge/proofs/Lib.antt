@@ -1,5 +1,6 @@
 pub mod Bits
 pub mod Byte
 pub mod Moving
+pub mod Together
 pub mod Places
 pub mod Laws

@@ -25,7 +25,7 @@ module _ (n m s : ℕ) (body : List ℕ) where
       number-at n m s body k (omega arith) ∙ rw (past k enablePlace (omega arith), past k resetPlace (omega arith), past k writePlace (omega arith), lt-ltb k flopPlace (omega arith), index)
 
   -- the data of bit b of the flip-flop byte
-  pub flop-at : (b : ℕ) → b < 8 → getD (edgeNumbers n m s body) (flopPlace + b) 0 ≡ codeOf (flopSource n m s body b)
+  pub flop-at : (b : ℕ) → b < 8 → getD (edgeNumbers n m s body) (flopPlace + b) 0 ≡ codeOf n (flopSource n m s body b)
   unfolding edgeNumber
   flop-at b h =
       let k = flopPlace + b in

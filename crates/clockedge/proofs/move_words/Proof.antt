@@ -4,7 +4,6 @@ use Prim.Native.Nat.{ℕ, _-_, _≤_}
 use native.Mathlib.Omega.{arith}
 use borrow.Author.Needs.{needs}
 use lib.Dec.{lit≤}
-use Rattle.netlist.specs.Rule.{valueOf}
 use Rattle.clockedge.specs.Moves.{wordBy}
 use Rattle.clockedge.specs.Moved.{Moved}
 use Rattle.clockedge.proofs.Moving.{moved-none, moved-more}
@@ -12,10 +11,10 @@ use Rattle.clockedge.proofs.move_words.Statement.{statement}
 use Rattle.clockedge.proofs.move_words.Tie as tie
 
 abbrev Inv-loop : tie.InvT-loop
-Inv-loop edge s inputs values contents₀ l₀ contents l = (l ≤ 4) × Moved (valueOf inputs values) edge s l contents₀ contents
+Inv-loop edge s wires contents₀ l₀ contents l = (l ≤ 4) × Moved wires edge s l contents₀ contents
 
 abbrev μ-loop : tie.MeasureT-loop
-μ-loop edge s inputs values contents₀ l₀ contents l = 4 - l
+μ-loop edge s wires contents₀ l₀ contents l = 4 - l
 
 loop-holds : tie.Need-loop-holds Inv-loop μ-loop
 loop-holds c = (lit≤ tt, moved-none _ _ _ _)
@@ -39,7 +38,7 @@ slice-read-next-word : tie.Need-slice-read-next-word Inv-loop μ-loop
 slice-read-next-word c = omega arith
 
 next-word-requires : tie.Need-next-word-requires Inv-loop μ-loop
-next-word-requires c κs = omega arith
+next-word-requires c κs = (c .before .before .before .before .before .before .before .before .pre .0, omega arith)
 
 mul-contents : tie.Need-mul-contents Inv-loop μ-loop
 mul-contents c = omega arith
@@ -55,9 +54,9 @@ loop-less c = omega arith
 
 loop-again : tie.Need-loop-again Inv-loop μ-loop
 loop-again c =
-    let a = c .before .before .before .before .before .before .before .before .before .before .args in
+    let a = c .before .before .before .before .before .before .before .before .before .args in
     let l = c .before .before .before .before .before .loop in
-    let v = valueOf (a .inputs .now) (a .values .now) in (
+    let v = a .wires .now in (
       omega arith,
       moved-more v (a .edge .now) (a .s) (l .l) (a .contents .now) (l .contents) (c .next-word .result) (l .inv .1) (omega arith)
           (c .next-word .ensures ∙ ap (wordBy v (a .edge .now) (l .l) _) (c .before .before .word-at .ensures)),
@@ -68,10 +67,10 @@ same-length c = c .before .loop .inv .1 .long
 
 returns : tie.Need-returns Inv-loop μ-loop
 returns c =
-    let a = c .before .before .before .before .before .before .args in
+    let a = c .before .before .before .before .before .args in
     let l = c .before .loop in
     let all : l .l ≡ 4 = omega arith in
-    subst (λ (k : ℕ). Moved (valueOf (a .inputs .now) (a .values .now)) (a .edge .now) (a .s) k (a .contents .now) (l .contents)) all (l .inv .1)
+    subst (λ (k : ℕ). Moved (a .wires .now) (a .edge .now) (a .s) k (a .contents .now) (l .contents)) all (l .inv .1)
 
 pub move-words-spec : {M : Type 1} → statement M
 move-words-spec =
