@@ -1,10 +1,9 @@
 // The plain numbers that one clock edge needs of a slice of the 7 series.
 ghost use mathlib.Core.Path.{_≡_};
-ghost use Prim.Native.Nat.{_<_};
+ghost use Prim.Native.Nat.{_<_, _≤_};
 ghost use Rattle.lent.specs.Lent.{was};
-ghost use Rattle.netlist.specs.Table.{codeOf};
-ghost use Rattle.slicefile.specs.Format.{HoldsSlice};
-ghost use Rattle.sources.specs.Sources.{HasPins};
+ghost use Rattle.netlist.specs.Table.{codeOf, inputRoom};
+ghost use Rattle.slicefile.specs.Format.{sliceLimit, HoldsSlice};
 ghost use Rattle.series7.specs.Edge.{mainSource, secondSource, flopSource};
 ghost use Rattle.clocknumbers.specs.Numbers.{resetCode, addressCode, tableKind, dataCode, edgeNumber, edgeNumbers};
 use slicefile::BYPASS_PIN;
@@ -12,7 +11,6 @@ use slicefile::CE_PIN;
 use slicefile::MAIN;
 use slicefile::MODE;
 use slicefile::MODE_D;
-use slicefile::PIN_COUNT;
 use slicefile::PINS_D;
 use slicefile::SECOND;
 use slicefile::SET_RESET_USED;
@@ -47,30 +45,30 @@ pub const WIDTH: usize = 26;
 pub const EDGE_LENGTH: usize = 27;
 
 // The set/reset pin, where it is used.
-fn reset_code(n: usize, m: usize, s: usize, body: &[u8], pins: &[u16; PIN_COUNT]) -> u16
-    requires { ⌜ HasPins n m s (now body) (now pins) ⌝ }
+fn reset_code(n: usize, m: usize, body: &[u8]) -> u16
+    requires { ⌜ HoldsSlice (now body) × (n ≤ sliceLimit) × (m ≤ inputRoom) ⌝ }
     ensures { λ r. ⌜ r ≡ resetCode n m (was body) ⌝ }
 {
     if body[SET_RESET_USED] == 1 {
-        return pins[SR_PIN];
+        return sources::pin_number(n, m, body, SR_PIN);
     }
     0
 }
 
 // Pin i of D's table, where D is in memory mode.
-fn address_code(n: usize, m: usize, s: usize, body: &[u8], pins: &[u16; PIN_COUNT], i: usize) -> u16
-    requires { ⌜ HasPins n m s (now body) (now pins) × (i < 6) ⌝ }
+fn address_code(n: usize, m: usize, body: &[u8], i: usize) -> u16
+    requires { ⌜ HoldsSlice (now body) × (n ≤ sliceLimit) × (m ≤ inputRoom) × (i < 6) ⌝ }
     ensures { λ r. ⌜ r ≡ addressCode n m (was body) i ⌝ }
 {
     if body[MODE_D] == 1 {
-        return pins[PINS_D + i];
+        return sources::pin_number(n, m, body, PINS_D + i);
     }
     0
 }
 
 // What the main flip-flop of a letter takes.
-fn main_code(n: usize, m: usize, s: usize, body: &[u8], pins: &[u16; PIN_COUNT], l: usize) -> u16
-    requires { ⌜ HasPins n m s (now body) (now pins) × (l < 4) ⌝ }
+fn main_code(n: usize, m: usize, s: usize, body: &[u8], l: usize) -> u16
+    requires { ⌜ HoldsSlice (now body) × (n ≤ sliceLimit) × (m ≤ inputRoom) × (s < n) × (l < 4) ⌝ }
     ensures { λ r. ⌜ r ≡ codeOf n (mainSource n m s (was body) l) ⌝ }
 {
     let choice = body[MAIN + l];
@@ -90,31 +88,31 @@ fn main_code(n: usize, m: usize, s: usize, body: &[u8], pins: &[u16; PIN_COUNT],
         return sources::own_number(s, sources::wide_signal(l));
     }
     if choice == 5 {
-        return pins[BYPASS_PIN + l];
+        return sources::pin_number(n, m, body, BYPASS_PIN + l);
     }
     0
 }
 
 // What the second flip-flop of a letter takes.
-fn second_code(n: usize, m: usize, s: usize, body: &[u8], pins: &[u16; PIN_COUNT], l: usize) -> u16
-    requires { ⌜ HasPins n m s (now body) (now pins) × (l < 4) ⌝ }
+fn second_code(n: usize, m: usize, s: usize, body: &[u8], l: usize) -> u16
+    requires { ⌜ HoldsSlice (now body) × (n ≤ sliceLimit) × (m ≤ inputRoom) × (s < n) × (l < 4) ⌝ }
     ensures { λ r. ⌜ r ≡ codeOf n (secondSource n m s (was body) l) ⌝ }
 {
     if body[SECOND + l] == 0 {
         return sources::own_number(s, O5_SIGNAL + l);
     }
-    pins[BYPASS_PIN + l]
+    sources::pin_number(n, m, body, BYPASS_PIN + l)
 }
 
 // What bit b of the flip-flop byte takes.
-fn flop_code(n: usize, m: usize, s: usize, body: &[u8], pins: &[u16; PIN_COUNT], b: usize) -> u16
-    requires { ⌜ HasPins n m s (now body) (now pins) × (b < 8) ⌝ }
+fn flop_code(n: usize, m: usize, s: usize, body: &[u8], b: usize) -> u16
+    requires { ⌜ HoldsSlice (now body) × (n ≤ sliceLimit) × (m ≤ inputRoom) × (s < n) × (b < 8) ⌝ }
     ensures { λ r. ⌜ r ≡ codeOf n (flopSource n m s (was body) b) ⌝ }
 {
     if b < 4 {
-        return main_code(n, m, s, body, pins, b);
+        return main_code(n, m, s, body, b);
     }
-    second_code(n, m, s, body, pins, b - 4)
+    second_code(n, m, s, body, b - 4)
 }
 
 // A table's kind: 0 logic, 1 memory, 2 shift, 3 shift from the next letter.
@@ -136,8 +134,8 @@ fn table_kind(body: &[u8], l: usize) -> u16
 }
 
 // A letter's bypass pin, where its table writes it.
-fn data_code(n: usize, m: usize, s: usize, body: &[u8], pins: &[u16; PIN_COUNT], l: usize) -> u16
-    requires { ⌜ HasPins n m s (now body) (now pins) × (l < 4) ⌝ }
+fn data_code(n: usize, m: usize, body: &[u8], l: usize) -> u16
+    requires { ⌜ HoldsSlice (now body) × (n ≤ sliceLimit) × (m ≤ inputRoom) × (l < 4) ⌝ }
     ensures { λ r. ⌜ r ≡ dataCode n m (was body) l ⌝ }
 {
     let kind = table_kind(body, l);
@@ -147,28 +145,28 @@ fn data_code(n: usize, m: usize, s: usize, body: &[u8], pins: &[u16; PIN_COUNT],
     if kind == 3 {
         return 0;
     }
-    pins[BYPASS_PIN + l]
+    sources::pin_number(n, m, body, BYPASS_PIN + l)
 }
 
 // Number k of a slice's edge.
-fn edge_number(n: usize, m: usize, s: usize, body: &[u8], pins: &[u16; PIN_COUNT], k: usize) -> u16
-    requires { ⌜ HasPins n m s (now body) (now pins) ⌝ }
+fn edge_number(n: usize, m: usize, s: usize, body: &[u8], k: usize) -> u16
+    requires { ⌜ HoldsSlice (now body) × (n ≤ sliceLimit) × (m ≤ inputRoom) × (s < n) ⌝ }
     ensures { λ r. ⌜ r ≡ edgeNumber n m s (was body) k ⌝ }
 {
     if k == ENABLE {
-        return pins[CE_PIN];
+        return sources::pin_number(n, m, body, CE_PIN);
     }
     if k == RESET {
-        return reset_code(n, m, s, body, pins);
+        return reset_code(n, m, body);
     }
     if k == WRITE {
-        return pins[WE_PIN];
+        return sources::pin_number(n, m, body, WE_PIN);
     }
     if k < FLOPS {
-        return address_code(n, m, s, body, pins, k - ADDRESS);
+        return address_code(n, m, body, k - ADDRESS);
     }
     if k < VALUES {
-        return flop_code(n, m, s, body, pins, k - FLOPS);
+        return flop_code(n, m, s, body, k - FLOPS);
     }
     if k == VALUES {
         return body[SET_RESET_VALUES] as u16;
@@ -177,26 +175,20 @@ fn edge_number(n: usize, m: usize, s: usize, body: &[u8], pins: &[u16; PIN_COUNT
         return table_kind(body, k - KINDS);
     }
     if k < WIDTH {
-        return data_code(n, m, s, body, pins, k - DATA);
+        return data_code(n, m, body, k - DATA);
     }
     8
 }
 
-// The numbers of the edge of slice s, from the body of its record and the numbers of its pins, in a file of n slices and m outside inputs.
-pub fn edge_of(
-    n: usize,
-    m: usize,
-    s: usize,
-    body: &[u8],
-    pins: &[u16; PIN_COUNT],
-) -> [u16; EDGE_LENGTH]
-    requires { ⌜ HasPins n m s (now body) (now pins) ⌝ }
+// The numbers of the edge of slice s, whose record has that body, in a file of n slices and m outside inputs.
+pub fn edge_of(n: usize, m: usize, s: usize, body: &[u8]) -> [u16; EDGE_LENGTH]
+    requires { ⌜ HoldsSlice (now body) × (n ≤ sliceLimit) × (m ≤ inputRoom) × (s < n) ⌝ }
     ensures { λ r. ⌜ r ≡ edgeNumbers n m s (was body) ⌝ }
 {
     let mut edge = [0u16; EDGE_LENGTH];
     let mut k = 0;
     while k < EDGE_LENGTH {
-        edge[k] = edge_number(n, m, s, body, pins, k);
+        edge[k] = edge_number(n, m, s, body, k);
         k += 1;
     }
     edge

@@ -92,7 +92,7 @@ fn decoded_number(n: usize, d: Decoded) -> u16
 }
 
 // The number of where pin p of a slice takes its bit from.
-fn pin_number(n: usize, m: usize, body: &[u8], p: usize) -> u16
+pub fn pin_number(n: usize, m: usize, body: &[u8], p: usize) -> u16
     requires { ⌜ HoldsSlice (now body) × (p < pinCount) × (n ≤ columnLimit) × (m ≤ inputRoom) ⌝ }
     ensures { λ r. ⌜ r ≡ codeOf n (pinSource n m (was body) p) ⌝ }
 {

@@ -2,22 +2,16 @@
 use native.Mathlib.Omega.{arith}
 use borrow.Author.Tests.{eq-eqb, ne-eqb, lt-ltb, le-ltb}
 use borrow.Author.Needs.{needs}
-use lib.Dec.{lit<}
-use Rattle.slicefile.specs.Format.{clockEnablePin, writeEnablePin}
-use Rattle.sources.proofs.PinLaws.{pin-at}
 use Rattle.clocknumbers.specs.Numbers.{edgeNumber}
 use Rattle.clocknumbers.proofs.edge_number.Statement.{statement}
 use Rattle.clocknumbers.proofs.edge_number.Tie as tie
 
-element-copy-out-result : tie.Need-element-copy-out-result
-element-copy-out-result c = search needs
+pin-number-requires : tie.Need-pin-number-requires
+pin-number-requires c κs = search needs
 
 returns : tie.Need-returns
 unfolding edgeNumber
-returns c =
-    let s = c .before .before .before in
-    let a = s .args in
-    search (needs, eq-eqb, pin-at (a .n) (a .m) (a .body .now) (s .pre .3) clockEnablePin (lit< tt))
+returns c = search (needs, eq-eqb, c .pin-number .ensures)
 
 reset-code-requires : tie.Need-reset-code-requires
 reset-code-requires c κs = search needs
@@ -26,15 +20,12 @@ returns-2 : tie.Need-returns-2
 unfolding edgeNumber
 returns-2 c = search (needs, eq-eqb, ne-eqb, c .reset-code .ensures)
 
-element-copy-out-result-2 : tie.Need-element-copy-out-result-2
-element-copy-out-result-2 c = search needs
+pin-number-requires-2 : tie.Need-pin-number-requires-2
+pin-number-requires-2 c κs = search needs
 
 returns-3 : tie.Need-returns-3
 unfolding edgeNumber
-returns-3 c =
-    let s = c .before .before .before .before .before in
-    let a = s .args in
-    search (needs, eq-eqb, ne-eqb, pin-at (a .n) (a .m) (a .body .now) (s .pre .3) writeEnablePin (lit< tt))
+returns-3 c = search (needs, eq-eqb, ne-eqb, c .pin-number2 .ensures)
 
 sub-address-code : tie.Need-sub-address-code
 sub-address-code c = search needs
@@ -88,11 +79,11 @@ pub edge-number-spec : {M : Type 1} → statement M
 edge-number-spec =
     tie.close
     (tie.spec
-    element-copy-out-result
+    pin-number-requires
     returns
     reset-code-requires
     returns-2
-    element-copy-out-result-2
+    pin-number-requires-2
     returns-3
     sub-address-code
     address-code-requires

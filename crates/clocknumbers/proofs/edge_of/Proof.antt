@@ -14,11 +14,11 @@ use Rattle.clocknumbers.proofs.edge_of.Statement.{statement}
 use Rattle.clocknumbers.proofs.edge_of.Tie as tie
 
 abbrev Inv-loop : tie.InvT-loop
-Inv-loop n m s body pins edge₀ k₀ edge k =
+Inv-loop n m s body edge₀ k₀ edge k =
     (k ≤ edgeLength) × (length edge ≡ edgeLength) × ((j : ℕ) → j < k → getD edge j 0 ≡ edgeNumber n m s body j)
 
 abbrev μ-loop : tie.MeasureT-loop
-μ-loop n m s body pins edge₀ k₀ edge k = edgeLength - k
+μ-loop n m s body edge₀ k₀ edge k = edgeLength - k
 
 loop-holds : tie.Need-loop-holds Inv-loop μ-loop
 loop-holds c = (lit≤ tt, refl, λ j h. absurd (not-suc-le-zero h))

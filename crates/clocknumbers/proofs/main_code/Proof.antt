@@ -10,7 +10,6 @@ use Rattle.netlist.specs.Table.{codeOf}
 use Rattle.netlist.specs.declared.Source.the-variants.{Constant}
 use Rattle.slicefile.specs.Format.{mainInput, bypassPin}
 use Rattle.sources.specs.Sources.{own, pinSource, wideSignal}
-use Rattle.sources.proofs.PinLaws.{pin-at}
 use Rattle.series7.specs.Edge.{mainSource}
 use Rattle.clocknumbers.proofs.main_code.Statement.{statement}
 use Rattle.clocknumbers.proofs.main_code.Tie as tie
@@ -76,21 +75,15 @@ returns-5 : tie.Need-returns-5
 unfolding codeOf mainSource
 returns-5 c = rw (c .before .before .if5 .taken, ← c .before .wide-signal .ensures .0) (c .own-number5 .ensures)
 
-add-result : tie.Need-add-result
-add-result c = search needs
+add-pin-number : tie.Need-add-pin-number
+add-pin-number c = search needs
 
-mul-result : tie.Need-mul-result
-mul-result c = search needs
-
-element-copy-out-result : tie.Need-element-copy-out-result
-element-copy-out-result c = search needs
+pin-number-requires : tie.Need-pin-number-requires
+pin-number-requires c κs = search needs
 
 returns-6 : tie.Need-returns-6
 unfolding mainSource
-returns-6 c =
-    let s = c .before .before .before .before .before .before .before .before .before in
-    let a = s .args in
-    rw (c .before .if6 .taken) (pin-at (a .n) (a .m) (a .body .now) (s .pre .0 .3) (bypassPin (a .l)) (omega arith))
+returns-6 c = rw (c .before .if6 .taken) (c .pin-number .ensures)
 
 returns-7 : tie.Need-returns-7
 unfolding codeOf
@@ -118,8 +111,7 @@ main-code-spec =
     wide-signal-requires
     own-number-requires-5
     returns-5
-    add-result
-    mul-result
-    element-copy-out-result
+    add-pin-number
+    pin-number-requires
     returns-6
     returns-7)

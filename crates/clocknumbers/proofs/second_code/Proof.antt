@@ -1,10 +1,7 @@
 -- `clocknumbers::second_code` meets its contract. Assumes nothing.
-use native.Mathlib.Omega.{arith}
 use borrow.Author.Tests.{eq-eqb, ne-eqb}
 use borrow.Author.Needs.{needs}
 use Rattle.netlist.specs.Table.{codeOf}
-use Rattle.slicefile.specs.Format.{bypassPin}
-use Rattle.sources.proofs.PinLaws.{pin-at}
 use Rattle.series7.specs.Edge.{secondSource}
 use Rattle.clocknumbers.proofs.second_code.Statement.{statement}
 use Rattle.clocknumbers.proofs.second_code.Tie as tie
@@ -25,21 +22,15 @@ returns : tie.Need-returns
 unfolding codeOf secondSource
 returns c = search (needs, eq-eqb, c .own-number .ensures)
 
-add-result : tie.Need-add-result
-add-result c = search needs
+add-pin-number : tie.Need-add-pin-number
+add-pin-number c = search needs
 
-mul-result : tie.Need-mul-result
-mul-result c = search needs
-
-element-copy-out-result : tie.Need-element-copy-out-result
-element-copy-out-result c = search needs
+pin-number-requires : tie.Need-pin-number-requires
+pin-number-requires c κs = search needs
 
 returns-2 : tie.Need-returns-2
 unfolding secondSource
-returns-2 c =
-    let s = c .before .before .before .before in
-    let a = s .args in
-    search (needs, ne-eqb, pin-at (a .n) (a .m) (a .body .now) (s .pre .0 .3) (bypassPin (a .l)) (omega arith))
+returns-2 c = search (needs, ne-eqb, c .pin-number .ensures)
 
 pub second-code-spec : {M : Type 1} → statement M
 second-code-spec =
@@ -50,7 +41,6 @@ second-code-spec =
     add-own-number
     own-number-requires
     returns
-    add-result
-    mul-result
-    element-copy-out-result
+    add-pin-number
+    pin-number-requires
     returns-2)
