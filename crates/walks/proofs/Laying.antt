@@ -1,46 +1,18 @@
--- Numbers put into a list from a place on, and what that leaves of wires. Assumes nothing.
+-- What is put on wires, and what that leaves of them. Assumes nothing.
 use mathlib.Core.Path.{_≡_, refl, sym, _∙_, ap}
 use mathlib.Core.List.{List}
-use mathlib.Core.Logic.{_⊎_, inl, inr}
+use mathlib.Core.Logic.{inl, inr}
 use Prim.Native.Nat.{ℕ, zero, _+_, _*_, _-_, _/_, _%_, _≤_, _<_}
 use native.Mathlib.Decide.{ℕ-discrete, decLt}
-use native.Mathlib.Nat.{not-suc-le-zero, zero-add}
 use native.Mathlib.Omega.{arith}
 use lib.ListN.{length, getD, set, take, drop, length-set, length-drop}
 use lib.Seq.{getD-set-same, getD-set-other, getD-take, getD-drop, ext-getD, length-take-le, set-out}
+use Rattle.lent.specs.Put.{Put, PutAll}
 use Rattle.netlist.specs.Rule.{bitAt}
 use Rattle.netlist.specs.Table.{sliceSignals, firstFlop, signalCount, signalWire, inputWire, wireCount, flopSignal}
 use Rattle.netlist.specs.Wires.{IsWires, valuesOn, inputsOn}
 use Rattle.evaluation.specs.Numbers.{Bits}
-use Rattle.walks.specs.Walks.{Put, PutAll, StillWires, FlopsOn}
-
-pub put-none : (f : ℕ → ℕ) (at : ℕ) (old : List ℕ) → Put f at 0 old old
-put-none f at old = record { long = refl; put = λ i h. absurd (not-suc-le-zero h); kept = λ c h. refl }
-
--- one more
-pub put-next : {f : ℕ → ℕ} {at k : ℕ} {old now : List ℕ} (v : ℕ) → v ≡ f k → at + k < length now → Put f at k old now → Put f at (k + 1) old (set now (at + k) v)
-put-next {f} {at} {k} {old} {now} v e room p =
-    record {
-      long = length-set now (at + k) v ∙ p .long;
-      put = λ i h. by i h (ℕ-discrete i k);
-      kept = λ c h. getD-set-other now (at + k) c v 0 (off c h) ∙ p .kept c (further c h);
-    }
-  where
-    by : (i : ℕ) → i < k + 1 → Dec (i ≡ k) → getD (set now (at + k) v) (at + i) 0 ≡ f i
-    by i h (yes same) = rw same (getD-set-same now (at + k) v 0 room ∙ e)
-    by i h (no other) = getD-set-other now (at + k) (at + i) v 0 (λ z. other (omega arith)) ∙ p .put i (omega arith)
-
-    off : (c : ℕ) → (c < at) ⊎ (at + (k + 1) ≤ c) → c ≡ at + k → ⊥
-    off c (inl h) z = omega arith
-    off c (inr h) z = omega arith
-
-    further : (c : ℕ) → (c < at) ⊎ (at + (k + 1) ≤ c) → (c < at) ⊎ (at + k ≤ c)
-    further c (inl h) = inl h
-    further c (inr h) = inr (omega arith)
-
--- a list put over another of its length
-pub put-whole : {src old new : List ℕ} → length old ≡ length src → PutAll src 0 old new → new ≡ src
-put-whole {src} {old} {new} size p = ext-getD 0 new src (p .long ∙ size) (λ i h. rw (zero-add i) at (p .put i (omega (arith, p .long))))
+use Rattle.walks.specs.Walks.{StillWires, FlopsOn}
 
 -- bits put over wires leave bits
 put-bits : {f : ℕ → ℕ} {at k : ℕ} {old new : List ℕ} → Put f at k old new → ((i : ℕ) → i < k → f i < 2) → Bits old → Bits new

@@ -1,8 +1,7 @@
 -- What a walk along an order needs, and what the walks leave on the wires and in the value table.
 use mathlib.Core.Path.{_≡_}
 use mathlib.Core.List.{List}
-use mathlib.Core.Logic.{_⊎_}
-use Prim.Native.Nat.{ℕ, _+_, _*_, _/_, _%_, _≤_, _<_}
+use Prim.Native.Nat.{ℕ, _*_, _/_, _%_, _<_}
 use lib.ListN.{length, getD}
 use Rattle.netlist.specs.Rule.{env, bitAt}
 use Rattle.netlist.specs.Graph.{Ordered}
@@ -17,16 +16,6 @@ pub record Walkable (n m : ℕ) (table order : List ℕ) : Type 0 where
   pub range : InRange n m table
   pub ordered : Ordered (readsIn (gateOf table n)) (signalCount n) order
   pub flops : FlopsFirst n order
-
--- k numbers, given by their index, are put from a place on, and every other element is kept
-pub record Put (f : ℕ → ℕ) (at k : ℕ) (old new : List ℕ) : Type 0 where
-  pub long : length new ≡ length old
-  pub put : (i : ℕ) → i < k → getD new (at + i) 0 ≡ f i
-  pub kept : (c : ℕ) → (c < at) ⊎ (at + k ≤ c) → getD new c 0 ≡ getD old c 0
-
--- the elements of a list are, each at its place
-abbrev pub PutAll : List ℕ → ℕ → List ℕ → List ℕ → Type 0
-PutAll src at old new = Put (λ i. getD src i 0) at (length src) old new
 
 -- what is still wires, with the same inputs
 pub record StillWires (n m : ℕ) (old new : List ℕ) : Type 0 where

@@ -6,7 +6,7 @@ use borrow.Author.Needs.{needs}
 use lib.ListN.{length, take, drop, length-drop}
 use lib.Seq.{length-take-le}
 use Rattle.netlist.specs.Table.{signalCount, signalWire, inputWire}
-use Rattle.walks.proofs.Laying.{put-whole}
+use Rattle.lent.proofs.Putting.{put-whole}
 use Rattle.walks.proofs.read_values.Statement.{statement}
 use Rattle.walks.proofs.read_values.Tie as tie
 

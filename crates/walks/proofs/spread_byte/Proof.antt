@@ -4,8 +4,8 @@ use Prim.Native.Nat.{_-_, _≤_}
 use native.Mathlib.Omega.{arith}
 use borrow.Author.Needs.{needs}
 use Rattle.netlist.specs.Rule.{bitAt}
-use Rattle.walks.specs.Walks.{Put}
-use Rattle.walks.proofs.Laying.{put-none, put-next}
+use Rattle.lent.specs.Put.{Put}
+use Rattle.lent.proofs.Putting.{put-none, put-next}
 use Rattle.walks.proofs.spread_byte.Statement.{statement}
 use Rattle.walks.proofs.spread_byte.Tie as tie
 
