@@ -1,15 +1,14 @@
 // A whole slice file: its records checked, its netlist, and the judge.
 ghost use mathlib.Core.Path.{_≡_};
-ghost use Prim.Native.Nat.{_≤_, _<_, _^_};
+ghost use Prim.Native.Nat.{_+_, _*_, _≤_, _<_, _^_};
 ghost use lib.ListN.{length};
 ghost use Rattle.lent.specs.Lent.{was, left};
-ghost use Rattle.column.specs.File.{sliceBody, gateAt};
+ghost use Rattle.column.specs.File.{sliceBody};
 ghost use Rattle.slicefile.specs.Format.{sliceLimit};
 ghost use Rattle.column.specs.Check.{checkEnd, checkFile, checkFrom, passedFrom, IsSound};
 ghost use Rattle.column.specs.Judge.{Judged};
-ghost use Rattle.netlist.specs.Table.{signalLimit, signalCount, tableLength};
-ghost use Rattle.column.specs.Compile.{tableLimit, Lowered, Compiled, Loaded};
-use netlist::Gate;
+ghost use Rattle.netlist.specs.Table.{sliceSignals, signalLimit, signalCount, tableLength};
+ghost use Rattle.column.specs.Compile.{tableLimit, LoweredTo, Lowered, Compiled, Loaded};
 use netlist::SIGNAL_LIMIT;
 use netlist::SLICE_NUMBERS;
 use netlist::SLICE_SIGNALS;
@@ -120,14 +119,20 @@ pub fn slice_body(file: &[u8], n: usize, m: usize, s: usize) -> &[u8]
     &file[at..at + SLICE_BODY]
 }
 
-// The gate of signal x of a sound file.
-fn signal_gate(file: &[u8], n: usize, m: usize, x: usize) -> Gate
-    requires { ⌜ IsSound (now file) n m × (x < signalCount n) ⌝ }
-    ensures { λ r. ⌜ r ≡ gateAt (was file) x ⌝ }
+// Puts the rows of slice s of a sound file into the gate table, after those of the slices before it.
+fn lower_slice(file: &[u8], n: usize, m: usize, s: usize, table: &mut [u16])
+    requires { ⌜ IsSound (now file) n m × (s < n) × (length (now table) ≡ tableLength n) ⌝ }
+    requires { ⌜ LoweredTo (now file) n (now table) (sliceSignals * s) ⌝ }
+    ensures { λ _. ⌜ LoweredTo (was file) n (left table) (sliceSignals * s + sliceSignals) ⌝ }
 {
-    let s = x / SLICE_SIGNALS;
     let body = slice_body(file, n, m, s);
-    series7::gate_at(n, m, s, body, x % SLICE_SIGNALS)
+    let pins = sources::pin_numbers(n, m, body);
+    let mut k: usize = 0;
+    while k < SLICE_SIGNALS {
+        let row = series7::row_at(n, m, s, body, &pins, k);
+        netlist::put_row(table, SLICE_SIGNALS * s + k, row);
+        k += 1;
+    }
 }
 
 // Puts the netlist of a sound file into the gate table.
@@ -135,11 +140,10 @@ fn lower(file: &[u8], n: usize, m: usize, table: &mut [u16])
     requires { ⌜ IsSound (now file) n m × (length (now table) ≡ tableLength n) ⌝ }
     ensures { λ _. ⌜ Lowered (was file) n (left table) ⌝ }
 {
-    let mut x: usize = 0;
-    while x < SLICE_SIGNALS * n {
-        let gate = signal_gate(file, n, m, x);
-        netlist::store_gate(table, n, x, gate);
-        x += 1;
+    let mut s: usize = 0;
+    while s < n {
+        lower_slice(file, n, m, s, table);
+        s += 1;
     }
 }
 

@@ -12,6 +12,7 @@ use Rattle.toposort.specs.declared.Sorted.{Sorted}
 use Rattle.slicefile.specs.Format.{sliceLimit}
 use Rattle.column.specs.File.{gateAt}
 use Rattle.column.specs.Judge.{accepted, loop}
+use Rattle.column.proofs.Netlist.{lowered-agree, lowered-range}
 use Rattle.column.proofs.SoundLaws.{sound-file}
 use Rattle.column.proofs.load_sound.Statement.{statement}
 use Rattle.column.proofs.load_sound.Tie as tie
@@ -51,7 +52,7 @@ compile-requires c κs = (c .before .before .before .before .before .pre .0, (nu
 Says : (c : tie.After-compile) → Sorted → Type 0
 Says c r =
     let a = c .before .before .before .before .before .before .args in
-    OrderOrLoop (gateAt (a .file .now)) (signalCount (a .n)) (c .compile .last .1 .1 .1 .1 .0) r
+    OrderOrLoop (gateAt (a .file .now)) (a .n) (c .compile .last .1 .1 .1 .1 .0) r
 
 enum-known-place : tie.Need-enum-known-place
 enum-known-place c = search needs
@@ -84,12 +85,19 @@ returns-2 c =
     let k = c .before .before .before .before .before .before in
     let s = k .before .before .before in
     let o = subst (Says k) (c .enum-told .given .1) (k .compile .ensures .sorted) in
+    let file = s .before .before .before .args .file .now in
+    let table = k .compile .last .1 .1 .1 .0 in
+    let order = k .compile .last .1 .1 .1 .1 .0 in
     let sized = k .compile .kept .1 .1 .1 .0 ∙ numbers s in
+    let listed = k .compile .kept .1 .1 .1 .1 .0 ∙ signals s in
+    let f = sound-file file (s .before .before .before .pre .0) in
     record {
-      verdict = accepted (s .before .before .before .pre .0) (loop-free o);
-      table = rw (take-at (k .compile .last .1 .1 .1 .0) _ _ sized) (omega (arith, few s), sized);
-      lowered = rw (take-at (k .compile .last .1 .1 .1 .0) _ _ sized) (k .compile .ensures .lowered);
-      ordered = rw (take-at (k .compile .last .1 .1 .1 .1 .0) _ _ (k .compile .kept .1 .1 .1 .1 .0 ∙ signals s)) o;
+      verdict = accepted (s .before .before .before .pre .0) (loop-free (o .0));
+      table = rw (take-at table _ _ sized) (omega (arith, few s), sized);
+      lowered = rw (take-at table _ _ sized) (lowered-agree file f table (k .compile .ensures .lowered));
+      ranges = rw (take-at table _ _ sized) (lowered-range file f table (k .compile .ensures .lowered));
+      ordered = rw (take-at order _ _ listed) (o .0);
+      flops = rw (take-at order _ _ listed) (o .1);
     }
 
 pub load-sound-spec : {M : Type 1} → statement M
