@@ -34,6 +34,10 @@ put-next {f} {at} {k} {old} {now} v e room p =
     further c (inl h) = inl h
     further c (inr h) = inr (omega arith)
 
+-- the same numbers, said in another way
+pub put-as : {f g : ℕ → ℕ} {at k : ℕ} {old new : List ℕ} → ((i : ℕ) → i < k → f i ≡ g i) → Put f at k old new → Put g at k old new
+put-as same p = record { long = p .long; put = λ i h. p .put i h ∙ same i h; kept = p .kept }
+
 -- a list put over another of its length
 pub put-whole : {src old new : List ℕ} → length old ≡ length src → PutAll src 0 old new → new ≡ src
 put-whole {src} {old} {new} size p = ext-getD 0 new src (p .long ∙ size) (λ i h. rw (zero-add i) at (p .put i (omega (arith, p .long))))

@@ -1,21 +1,21 @@
 -- Where the wires hold a value table and the inputs, a source's bit is the wire at its number; and what a store to a signal's wire leaves.
 -- Assumes nothing.
-use mathlib.Core.Path.{_≡_, refl, sym, _∙_, ap}
+use mathlib.Core.Path.{_≡_, refl, sym, _∙_, ap, ap₂}
 use mathlib.Core.Bool.{Bool, true, false, cond}
-use mathlib.Core.List.{List}
+use mathlib.Core.List.{List, [], _∷_, _++_}
 use Prim.Native.Nat.{ℕ, zero, suc, _+_, _*_, _-_, _%_, _≤_, _<_}
 use native.Mathlib.Decide.{ℕ-discrete, decLt}
 use native.Mathlib.Omega.{arith}
 use borrow.Author.Tests.{lt-ltb, le-ltb}
 use lib.Dec.{eqb, ltb}
-use lib.ListN.{length, getD, set, take, drop, length-set}
-use lib.Seq.{getD-take, getD-drop, getD-set-same, getD-set-other, take-set-lt, drop-set-add, drop-set-lt}
+use lib.ListN.{length, getD, set, take, drop, length-set, take-append-drop}
+use lib.Seq.{getD-take, getD-drop, getD-set-same, getD-set-other, take-set-lt, drop-set-add, drop-set-lt, drop-drop}
 use Rattle.netlist.specs.declared.Source.{Source}
 use Rattle.netlist.specs.declared.Source.the-variants.{Constant, Input, Signal}
 use Rattle.netlist.specs.declared.Gate.the-variants.{Lut, ZeroOf, Select, Xor, Same, Stored}
 use Rattle.netlist.specs.Rule.{env, bit, valueOf, applyGate, ruleOf}
 use Rattle.netlist.specs.Table.{signalCount, signalWire, inputWire, codeOf, sourceOf, selectHead, storedHead, rowLength, gateWith, gateOf, SourceFits}
-use Rattle.netlist.specs.Wires.{IsWires, valuesOn, inputsOn, onWire}
+use Rattle.netlist.specs.Wires.{IsWires, wiresOf, valuesOn, inputsOn, onWire}
 use Rattle.netlist.proofs.Table.{source-back}
 
 -- the three kinds of number
@@ -122,3 +122,12 @@ module _ {n m : ℕ} {wires : List ℕ} (w : IsWires n m wires) (x v : ℕ) (h :
       at : (c : ℕ) → Dec (c ≡ signalWire + x) → getD (set wires (signalWire + x) v) c 0 < 2
       at c (yes e) = rw (e, getD-set-same wires (signalWire + x) v 0 (omega (arith, w .size))) small
       at c (no d) = rw (getD-set-other wires (signalWire + x) c v 0 d) (w .bits c)
+
+-- wires are those of the value table and the inputs on them
+pub wires-are : {n m : ℕ} (wires : List ℕ) → IsWires n m wires → wires ≡ wiresOf (inputsOn n wires) (valuesOn n wires)
+wires-are [] w = absurd (omega (arith, w .size))
+wires-are (a ∷ []) w = absurd (omega (arith, w .size))
+wires-are {n} (a ∷ b ∷ rest) w =
+    ap₂ (λ (x y : ℕ). x ∷ y ∷ rest) (w .low) (w .high)
+    ∙ ap (λ (l : List ℕ). 0 ∷ 1 ∷ l) (sym (take-append-drop (signalCount n) rest))
+    ∙ ap (λ (l : List ℕ). 0 ∷ 1 ∷ (take (signalCount n) rest ++ l)) (drop-drop (signalCount n) signalWire (a ∷ b ∷ rest))
