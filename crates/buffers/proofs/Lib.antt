@@ -1,3 +1,5 @@
 pub mod Lengths
 pub mod Splits
 pub mod Good
+pub mod Modes
+pub mod Passed

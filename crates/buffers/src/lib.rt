@@ -1,14 +1,15 @@
-// The buffers and arguments lent to a call on a sound file: refusals 10 and 11.
+// The buffers and arguments lent to a call: refusals 10 and 11. What the file says of them, its tables' kinds, stands among the numbers of its plan.
 ghost use mathlib.Core.Path.{_≡_};
 ghost use Prim.Native.Nat.{_*_, _<_, _≤_};
 ghost use lib.ListN.{length};
 ghost use Rattle.lent.specs.Lent.{was};
 ghost use Rattle.slicefile.specs.Format.{sliceLimit};
-ghost use Rattle.column.specs.Check.{IsSound};
+ghost use Rattle.clocknumbers.specs.Numbers.{edgeLength};
 ghost use Rattle.column.specs.Clock.{stateWas};
-ghost use Rattle.buffers.specs.Buffers.{badState, badLengths, badBytes, badWord, badWords, settleRefusal, editRefusal, badTable};
+ghost use Rattle.buffers.specs.Buffers.{badState, badLengths, badBytes, badWordBy, badWordsBy, settleRefusalBy, editRefusalBy, badTableBy};
+use clocknumbers::EDGE_LENGTH;
+use clocknumbers::KINDS;
 use netlist::SLICE_SIGNALS;
-use slicefile::MODE;
 
 // Whether the contents or the flip-flops have another length than n slices take.
 pub fn bad_state(n: usize, contents: &[u64], flops: &[u8]) -> bool
@@ -46,43 +47,43 @@ fn bad_bytes(bytes: &[u8]) -> bool
     found
 }
 
-// Whether a word has bits 32 to 63 set while table t of a sound file is in shift mode.
-fn bad_word(file: &[u8], n: usize, m: usize, t: usize, word: u64) -> bool
-    requires { ⌜ IsSound (now file) n m × (t < 4 * n) ⌝ }
-    ensures { λ r. ⌜ r ≡ badWord (was file) t word ⌝ }
+// Whether a word has bits 32 to 63 set while table t is in shift mode, by the kinds among the edges' numbers of n slices.
+fn bad_word(edges: &[u16], n: usize, t: usize, word: u64) -> bool
+    requires { ⌜ (n ≤ sliceLimit) × (length (now edges) ≡ edgeLength * n) × (t < 4 * n) ⌝ }
+    ensures { λ r. ⌜ r ≡ badWordBy (was edges) t word ⌝ }
 {
-    let body = column::slice_body(file, n, m, t / 4);
-    (body[MODE + t % 4] == 2) & (4294967296 <= word)
+    let kind = edges[EDGE_LENGTH * (t / 4) + KINDS + t % 4];
+    (2 <= kind) & (4294967296 <= word)
 }
 
 // Whether any word does.
-fn bad_words(file: &[u8], n: usize, m: usize, contents: &[u64]) -> bool
-    requires { ⌜ IsSound (now file) n m × (length (now contents) ≡ 4 * n) ⌝ }
-    ensures { λ r. ⌜ r ≡ badWords (was file) (was contents) ⌝ }
+fn bad_words(edges: &[u16], n: usize, contents: &[u64]) -> bool
+    requires { ⌜ (n ≤ sliceLimit) × (length (now edges) ≡ edgeLength * n) × (length (now contents) ≡ 4 * n) ⌝ }
+    ensures { λ r. ⌜ r ≡ badWordsBy (was edges) (was contents) ⌝ }
 {
     let mut found = false;
     let mut t = 0;
     while t < contents.len() {
-        found = bad_word(file, n, m, t, contents[t]) | found;
+        found = bad_word(edges, n, t, contents[t]) | found;
         t += 1;
     }
     found
 }
 
 // Whether a table is not there, or its mode does not allow the word.
-pub fn bad_table(file: &[u8], n: usize, m: usize, table: usize, word: u64) -> bool
-    requires { ⌜ IsSound (now file) n m ⌝ }
-    ensures { λ r. ⌜ r ≡ badTable (was file) n table word ⌝ }
+pub fn bad_table(edges: &[u16], n: usize, table: usize, word: u64) -> bool
+    requires { ⌜ (n ≤ sliceLimit) × (length (now edges) ≡ edgeLength * n) ⌝ }
+    ensures { λ r. ⌜ r ≡ badTableBy (was edges) n table word ⌝ }
 {
     if 4 * n <= table {
         return true;
     }
-    bad_word(file, n, m, table, word)
+    bad_word(edges, n, table, word)
 }
 
-// The refusal of settling and clocking a sound file's buffers, 0 where there is none.
+// The refusal of settling and clocking n slices with m outside inputs, 0 where there is none.
 pub fn settle_refusal(
-    file: &[u8],
+    edges: &[u16],
     n: usize,
     m: usize,
     contents: &[u64],
@@ -90,25 +91,24 @@ pub fn settle_refusal(
     inputs: &[u8],
     values: &[u8],
 ) -> usize
-    requires { ⌜ IsSound (now file) n m ⌝ }
-    ensures { λ r. ⌜ r ≡ settleRefusal (was file) (stateWas contents flops) (was inputs) (was values) n m ⌝ }
+    requires { ⌜ (n ≤ sliceLimit) × (length (now edges) ≡ edgeLength * n) ⌝ }
+    ensures { λ r. ⌜ r ≡ settleRefusalBy (badWordsBy (was edges) (was contents)) (stateWas contents flops) (was inputs) (was values) n m ⌝ }
 {
     if bad_lengths(n, m, contents, flops, inputs, values) {
         return 10;
     }
     let bytes = bad_bytes(inputs);
-    let words = bad_words(file, n, m, contents);
+    let words = bad_words(edges, n, contents);
     if bytes | words {
         return 11;
     }
     0
 }
 
-// The refusal of an edit of a sound file's buffers, whose own argument is bad or not, 0 where there is none: that of settling, then the values and the
-// argument.
+// The refusal of an edit, whose own argument is bad or not, 0 where there is none: that of settling, then the values and the argument.
 pub fn edit_refusal(
     bad: bool,
-    file: &[u8],
+    edges: &[u16],
     n: usize,
     m: usize,
     contents: &[u64],
@@ -116,10 +116,10 @@ pub fn edit_refusal(
     inputs: &[u8],
     values: &[u8],
 ) -> usize
-    requires { ⌜ IsSound (now file) n m ⌝ }
-    ensures { λ r. ⌜ r ≡ editRefusal bad (was file) (stateWas contents flops) (was inputs) (was values) n m ⌝ }
+    requires { ⌜ (n ≤ sliceLimit) × (length (now edges) ≡ edgeLength * n) ⌝ }
+    ensures { λ r. ⌜ r ≡ editRefusalBy bad (badWordsBy (was edges) (was contents)) (stateWas contents flops) (was inputs) (was values) n m ⌝ }
 {
-    let number = settle_refusal(file, n, m, contents, flops, inputs, values);
+    let number = settle_refusal(edges, n, m, contents, flops, inputs, values);
     if number != 0 {
         return number;
     }

@@ -1,21 +1,14 @@
 -- How a call on a file goes, put together. Assumes nothing.
-use mathlib.Core.Path.{_≡_, refl, sym}
+use mathlib.Core.Path.{_≡_, refl, sym, _∙_}
 use mathlib.Core.List.{List}
 use Prim.Native.Nat.{ℕ, zero, suc}
-use lib.ListN.{length, take}
-use Rattle.netlist.specs.Table.{signalCount, netOf}
-use Rattle.netlist.proofs.Agree.{agree-sym, ordered-agree}
 use Rattle.slicefile.specs.declared.Answer.{Answer}
 use Rattle.slicefile.specs.declared.Answer.the-variants.{Refused}
-use Rattle.walks.specs.Walks.{Walkable}
-use Rattle.column.specs.Compile.{Ready}
-use Rattle.column.specs.File.{gateAt}
 use Rattle.column.specs.Judge.{Judged}
 use Rattle.column.specs.declared.Verdict.{Verdict}
 use Rattle.column.specs.declared.Verdict.the-variants.{Refused as VerdictRefused, Accepted}
-use Rattle.column.proofs.SoundLaws.{SoundFile, sound-file}
-use Rattle.column.proofs.Verdicts.{accepted-sound}
-use Rattle.calls.specs.Calls.{Called, judged, refused, refusalOf}
+use Rattle.plan.specs.Plan.{Loaded}
+use Rattle.calls.specs.Calls.{Called, judged, refused, done, Planned, turned-down, carried-out, refusalOf}
 
 module _ (file : List ℕ) (own : ℕ → ℕ → ℕ) {Kept : Type 0} {Did : ℕ → ℕ → Type 0} where
   -- the judge's refusal, handed on
@@ -27,20 +20,23 @@ module _ (file : List ℕ) (own : ℕ → ℕ → ℕ) {Kept : Type 0} {Did : �
   refused-by j zero e ne kept = absurd (ne refl)
   refused-by j (suc k) e ne kept = refused j (sym e) kept
 
-  -- a refusal of another call, whose refusals are the same and after which all this one writes is as it was
-  pub refused-as : {Kept′ : Type 0} {Did′ : ℕ → ℕ → Type 0} {k p : ℕ} → (Kept′ → Kept) → Called file own Kept′ Did′ (Refused k p) → Called file own Kept Did (Refused k p)
-  refused-as f (judged j kept) = judged j (f kept)
-  refused-as f (refused j e kept) = refused j e (f kept)
+  -- a call on the plan of an accepted file is one on the file, where its own refusal is the file's and so is what was done
+  pub planned-called :
+      {n m : ℕ} {by : ℕ} {Made : Type 0} {r : Answer} → Judged file (Accepted n m) → by ≡ own n m → (Made → Did n m) → Planned by Kept Made r
+      → Called file own Kept Did r
+  planned-called j same f (turned-down e kept) = refused j (sym same ∙ e) kept
+  planned-called j same f (carried-out e made) = done j (sym same ∙ e) (f made)
 
--- a file that is ready has sound records
-pub ready-sound : (file : List ℕ) {n m : ℕ} {net order : List ℕ} → Ready file n m net order → SoundFile file n m
-ready-sound file r = sound-file file (accepted-sound file (r .verdict))
+-- the own refusal of a call on a plan, by its number
+pub turned-by : {own : ℕ} {Kept Did : Type 0} (k : ℕ) → k ≡ own → (k ≡ 0 → ⊥) → Kept → Planned own Kept Did (Refused k 0)
+turned-by zero e ne kept = absurd (ne refl)
+turned-by (suc k) e ne kept = turned-down (sym e) kept
 
--- what a walk along the order asks for
-pub ready-walk : (file : List ℕ) {n m : ℕ} {net order values : List ℕ} → Ready file n m net order → length values ≡ signalCount n → Walkable n net order values
-ready-walk file {n} {net = net} {order} r size =
-    record {
-      table = r .table;
-      ordered = ordered-agree (gateAt file) (netOf net n) (signalCount n) (agree-sym (r .lowered)) (take (signalCount n) order) (r .ordered);
-      size = size;
-    }
+-- a refusal of another call, whose refusals are the same and after which all this one writes is as it was
+pub turned-as : {own : ℕ} {Kept Kept′ Did Did′ : Type 0} {k p : ℕ} → (Kept′ → Kept) → Planned own Kept′ Did′ (Refused k p) → Planned own Kept Did (Refused k p)
+turned-as f (turned-down e kept) = turned-down e (f kept)
+
+-- the judge's verdict on a file that is loaded or refused
+pub loaded-judged : (file plan : List ℕ) (v : Verdict) → Loaded file plan v → Judged file v
+loaded-judged file plan (VerdictRefused k p) l = l
+loaded-judged file plan (Accepted n m) l = l .verdict

@@ -19,6 +19,11 @@ pub data Called (file : List ℕ) (own : ℕ → ℕ → ℕ) (Kept : Type 0) (D
   refused : {n m k : ℕ} → Judged file (Accepted n m) → own n m ≡ suc k → Kept → Called file own Kept Did (AnswerRefused (suc k) 0)
   done : {n m : ℕ} → Judged file (Accepted n m) → own n m ≡ 0 → Did n m → Called file own Kept Did Done
 
+-- a call on the plan of a judged file: its own refusal, or what was done
+pub data Planned (own : ℕ) (Kept Did : Type 0) : Answer → Type 0 where
+  turned-down : {k : ℕ} → own ≡ suc k → Kept → Planned own Kept Did (AnswerRefused (suc k) 0)
+  carried-out : own ≡ 0 → Did → Planned own Kept Did Done
+
 -- the judge's refusal as the answer of a call
 abbrev pub refusalOf : Verdict → Answer
 refusalOf (Refused k p) = AnswerRefused k p

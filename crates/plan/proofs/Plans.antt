@@ -9,10 +9,10 @@ use lib.ListN.{length, getD, take, drop, length-drop}
 use lib.Seq.{length-take-le, take-append-le, getD-take, getD-drop, ext-getD}
 use Rattle.netlist.specs.Rule.{valueOf}
 use Rattle.netlist.specs.Table.{signalLimit, signalCount, tableLength, IsTable, netOf, SourceFits}
-use Rattle.netlist.specs.Wires.{IsWires, valuesOn, inputsOn, onWire}
+use Rattle.netlist.specs.Wires.{IsWires, wiresOf, valuesOn, inputsOn, onWire}
 use Rattle.netlist.specs.declared.Source.{Source}
 use Rattle.netlist.proofs.Agree.{agree-sym, ordered-agree}
-use Rattle.netlist.proofs.Wires.{wire-source}
+use Rattle.netlist.proofs.Wires.{wire-source, wires-are}
 use Rattle.lent.specs.Put.{Put, PutAll}
 use Rattle.lent.proofs.Putting.{put-front, put-part}
 use Rattle.slicefile.proofs.Tabulate.{tabulate-same}
@@ -22,14 +22,14 @@ use Rattle.clocknumbers.proofs.Table.{numbers-length}
 use Rattle.clockedge.specs.Moves.{EdgesFit, edgeAt, flopsBy, wordBy, wordsBy, bytesBy}
 use Rattle.clockedge.proofs.Laws.{edge-fits, flops-law, word-law}
 use Rattle.walks.specs.Walks.{Walkable}
-use Rattle.column.specs.Clock.{stateOf, clocked}
+use Rattle.column.specs.Clock.{State, stateOf, clocked}
 use Rattle.column.specs.Compile.{Ready as Netlisted, Loaded as NetLoaded}
 use Rattle.column.specs.declared.Verdict.{Verdict}
 use Rattle.column.specs.declared.Verdict.the-variants.{Refused}
 use Rattle.column.specs.File.{sliceBody, gateAt}
 use Rattle.column.proofs.SoundLaws.{SoundFile, sound-file, body-good}
 use Rattle.column.proofs.Verdicts.{accepted-sound}
-use Rattle.plan.specs.Plan.{edgesPlace, orderPlace, planLength, planLimit, planTable, planEdges, planOrder, edgesOf, Represents, Ready, Loaded}
+use Rattle.plan.specs.Plan.{edgesPlace, orderPlace, planLength, planLimit, planTable, planEdges, planOrder, edgesOf, Represents, Ready, Loaded, Runnable, clockedBy}
 use Rattle.plan.proofs.Numbers.{slice-at}
 
 -- a netlist at the front of a longer buffer
@@ -97,6 +97,19 @@ module _ (file : List ℕ) {n m : ℕ} {plan : List ℕ} (r : Ready file n m pla
         byte : (s : ℕ) → s < n
             → flopsBy wires (edgeAt (planEdges plan n) s) (getD bytes s 0) ≡ nextFlops v n m s (sliceBody file s) (getD bytes s 0)
         byte s h = rw (r .represents .edges s h) (flops-law n m wires v (w .low) on s (sliceBody file s) h (getD bytes s 0))
+
+  pub ready-runs : Runnable n m plan
+  ready-runs =
+      record { few = ready-sound .slices-fit; narrow = omega (arith, ready-sound .inputs-fit); room = r .room; walk = ready-walk; edges = λ wires w. ready-edges w }
+
+  -- the edge by the plan is the file's
+  pub clocked-same :
+      (st : State) (inputs values wires : List ℕ) → IsWires n m wires → inputsOn n wires ≡ inputs → valuesOn n wires ≡ values
+      → clockedBy plan n st inputs values ≡ clocked file st inputs values
+  clocked-same st inputs values wires w i v =
+      ap (λ (l : List ℕ). stateOf (wordsBy l (planEdges plan n) n (st .contents)) (bytesBy l (planEdges plan n) n (st .flops))) (sym (wires-are wires w ∙ ap₂ wiresOf i v))
+      ∙ ready-clocked w (st .contents) (st .flops)
+      ∙ ap₂ (clocked file st) i v
 
 -- the edges' numbers and the order put behind the gate table
 pub completed :

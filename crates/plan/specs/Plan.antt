@@ -6,10 +6,13 @@ use mathlib.Core.List.{List}
 use lib.ListN.{length, take, drop}
 use Rattle.netlist.specs.Agree.{Agree}
 use Rattle.netlist.specs.Graph.{Ordered}
-use Rattle.netlist.specs.Table.{signalCount, tableLength, netOf, FlopsFirst, InRange}
+use Rattle.netlist.specs.Table.{signalCount, tableLength, inputRoom, netOf, FlopsFirst, InRange}
+use Rattle.netlist.specs.Wires.{IsWires, wiresOf}
 use Rattle.slicefile.specs.Format.{sliceLimit}
 use Rattle.clocknumbers.specs.Numbers.{edgeLength, edgeNumber, edgeNumbers}
-use Rattle.clockedge.specs.Moves.{edgeAt}
+use Rattle.clockedge.specs.Moves.{EdgesFit, edgeAt, wordsBy, bytesBy}
+use Rattle.walks.specs.Walks.{Walkable}
+use Rattle.column.specs.Clock.{State, stateOf}
 use Rattle.column.specs.File.{sliceBody, gateAt}
 use Rattle.column.specs.Judge.{readsAt, Judged}
 use Rattle.column.specs.declared.Verdict.{Verdict}
@@ -60,3 +63,17 @@ pub record Ready (file : List ℕ) (n m : ℕ) (plan : List ℕ) : Type 0 where
 abbrev pub Loaded : List ℕ → List ℕ → Verdict → Type 0
 Loaded file plan (Refused k p) = Judged file (Refused k p)
 Loaded file plan (Accepted n m) = Ready file n m plan
+
+-- what a plan must have to be run on, whatever file it stands for: a table and an order to walk along, and edges whose sources are wires
+pub record Runnable (n m : ℕ) (plan : List ℕ) : Type 0 where
+  pub few : n ≤ sliceLimit
+  pub narrow : m ≤ inputRoom
+  pub room : planLength n ≤ length plan
+  pub walk : Walkable n m (planTable plan n) (planOrder plan n)
+  pub edges : (wires : List ℕ) → IsWires n m wires → EdgesFit n wires (planEdges plan n)
+
+-- the state after the clock edge, from the value table settled before it
+abbrev pub clockedBy : List ℕ → ℕ → State → List ℕ → List ℕ → State
+clockedBy plan n st inputs values =
+    let wires = wiresOf inputs values in
+    stateOf (wordsBy wires (planEdges plan n) n (st .contents)) (bytesBy wires (planEdges plan n) n (st .flops))

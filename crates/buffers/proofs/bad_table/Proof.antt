@@ -1,13 +1,11 @@
 -- `buffers::bad_table` meets its contract. Assumes nothing.
-use native.Mathlib.Omega.{arith}
 use borrow.Author.Needs.{needs}
 use borrow.Author.Tests.{le-leb, lt-leb}
-use Rattle.column.proofs.SoundLaws.{sound-file}
 use Rattle.buffers.proofs.bad_table.Statement.{statement}
 use Rattle.buffers.proofs.bad_table.Tie as tie
 
 mul-if1 : tie.Need-mul-if1
-mul-if1 c = omega (arith, sound-file (c .before .args .file .now) (c .before .pre) .slices-fit)
+mul-if1 c = search needs
 
 returns : tie.Need-returns
 returns c = simp (le-leb _ _ (c .if1 .taken))

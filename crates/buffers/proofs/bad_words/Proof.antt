@@ -8,18 +8,18 @@ use borrow.Author.Needs.{needs}
 use lib.ListN.{length, getD}
 use Rattle.slicefile.specs.Lists.{anyBelow}
 use Rattle.slicefile.proofs.Tests.{any-next}
-use Rattle.buffers.specs.Buffers.{badWord, badWords}
+use Rattle.buffers.specs.Buffers.{badWordBy, badWordsBy}
 use Rattle.buffers.proofs.bad_words.Statement.{statement}
 use Rattle.buffers.proofs.bad_words.Tie as tie
 
 abbrev bad : List ℕ → List ℕ → ℕ → Bool
-bad file contents t = badWord file t (getD contents t 0)
+bad edges contents t = badWordBy edges t (getD contents t 0)
 
 abbrev Inv-loop : tie.InvT-loop
-Inv-loop file n m contents found₀ t₀ found t = (t ≤ length contents) × (found ≡ anyBelow t (bad file contents))
+Inv-loop edges n contents found₀ t₀ found t = (t ≤ length contents) × (found ≡ anyBelow t (bad edges contents))
 
 abbrev μ-loop : tie.MeasureT-loop
-μ-loop file n m contents found₀ t₀ found t = length contents - t
+μ-loop edges n contents found₀ t₀ found t = length contents - t
 
 loop-holds : tie.Need-loop-holds Inv-loop μ-loop
 unfolding anyBelow
@@ -32,7 +32,7 @@ shared-slice-read-bad-word : tie.Need-shared-slice-read-bad-word Inv-loop μ-loo
 shared-slice-read-bad-word c = search needs
 
 bad-word-requires : tie.Need-bad-word-requires Inv-loop μ-loop
-bad-word-requires c κs = let b = c .before .before .before .before .before in (b .pre .0, omega (arith, b .pre .1))
+bad-word-requires c κs = let b = c .before .before .before .before .before in (b .pre .0, b .pre .1, omega (arith, b .pre .2))
 
 add-t : tie.Need-add-t Inv-loop μ-loop
 add-t c = search needs
@@ -44,7 +44,7 @@ loop-again : tie.Need-loop-again Inv-loop μ-loop
 loop-again c = (search needs, any-next _ _ (c .bad-word .ensures) (c .before .before .before .loop .inv .1))
 
 returns : tie.Need-returns Inv-loop μ-loop
-unfolding badWords
+unfolding badWordsBy
 returns c =
     let at = c .before .loop in
     let e : at .t ≡ length (c .before .before .before .before .args .contents .now) = omega arith in
