@@ -1,20 +1,17 @@
 -- By the numbers of a plan a call refuses its buffers just where the file does. Assumes nothing.
 use mathlib.Core.Path.{_≡_, refl, sym, _∙_, ap}
-use mathlib.Core.Bool.{Bool, true, false, not, _&&_, _||_, cond}
+use mathlib.Core.Bool.{Bool, true, false, _||_, cond}
 use mathlib.Core.List.{List}
 use Prim.Native.Nat.{ℕ, zero, suc, _+_, _*_, _/_, _%_, _≤_, _<_}
 use native.Mathlib.Omega.{arith}
-use native.Mathlib.Nat.{not-suc-le-zero}
-use borrow.Author.Tests.{ltb-false, leb-false}
-use lib.Dec.{eqb, ltb, leb}
-use lib.ListN.{length, getD, take, drop}
+use borrow.Author.Tests.{leb-false}
+use lib.Dec.{eqb, leb}
+use lib.ListN.{length, getD, drop}
 use lib.Seq.{getD-take, getD-drop}
-use Rattle.slicefile.specs.Lists.{anyBelow}
-use Rattle.slicefile.specs.Format.{numberByte, kind, mode, shiftData, carryData, muxChoice, mainInput, secondInput, carryStart, setResetUsed}
-use Rattle.slicefile.proofs.Tests.{or-left, or-right, none-below}
-use Rattle.rules.specs.Rules.{given, letterChoice, badChoice, bodyRefusal}
-use Rattle.rules.proofs.Refusals.{orElse-left, orElse-right, given-none}
-use Rattle.clocknumbers.specs.Numbers.{edgeLength, kindPlace, kindOf, edgeNumbers}
+use Rattle.slicefile.specs.Format.{mode, shiftData}
+use Rattle.slicefile.proofs.Tests.{any-same}
+use Rattle.rules.proofs.Letters.{mode-listed}
+use Rattle.clocknumbers.specs.Numbers.{edgeLength, kindPlace, kindOf}
 use Rattle.clockedge.specs.Moves.{edgeAt}
 use Rattle.clockedge.proofs.Places.{kind-at}
 use Rattle.column.specs.Clock.{State}
@@ -24,22 +21,6 @@ use Rattle.plan.specs.Plan.{planEdges, Ready}
 use Rattle.plan.proofs.Plans.{ready-sound}
 use Rattle.buffers.specs.Buffers.{badLengths, badWord, badWords, settleRefusalBy, settleRefusal, editRefusalBy, editRefusal, badTable, kindIn, badWordBy, badWordsBy, badTableBy}
 use Rattle.buffers.proofs.Lengths.{lengths}
-
--- a letter's mode is 0, 1 or 2
-mode-listed : (n m s : ℕ) (body : List ℕ) → bodyRefusal n m s body ≡ 0 → (l : ℕ) → l < 4 → mode body l ≤ 2
-unfolding bodyRefusal badChoice letterChoice
-mode-listed n m s body ok l h =
-    let e = orElse-right (given 4 (not (eqb (numberByte body) (s % 256)))) _ ok in
-    let choice = given-none 4 (badChoice body) (orElse-left (given 5 (badChoice body)) _ e) in
-    let letters = or-right (ltb 1 (kind body) || ltb 3 (carryStart body) || ltb 1 (setResetUsed body)) (anyBelow 4 (letterChoice body)) choice in
-    let a = ltb 2 (mode body l) in
-    let b = ltb 1 (shiftData body l) in
-    let c = ltb 1 (carryData body l) in
-    let d = ltb 4 (muxChoice body l) in
-    let f = ltb 5 (mainInput body l) in
-    let g = ltb 1 (secondInput body l) in
-    let one = none-below 4 (letterChoice body) letters l h in
-    ltb-false 2 (mode body l) (or-left a b (or-left (a || b) c (or-left (a || b || c) d (or-left (a || b || c || d) f (or-left (a || b || c || d || f) g one)))))
 
 -- shift mode by its kind
 kind-shift : (x d : ℕ) → x ≤ 2 → leb 2 (kindOf x d) ≡ eqb x 2
@@ -52,12 +33,6 @@ kind-shift (suc (suc zero)) d h = by (eqb d 1)
     by true = refl
     by false = refl
 kind-shift (suc (suc (suc x))) d h = absurd (omega arith)
-
--- tests that agree below k
-any-same : (k : ℕ) (f g : ℕ → Bool) → ((t : ℕ) → t < k → f t ≡ g t) → anyBelow k f ≡ anyBelow k g
-unfolding anyBelow
-any-same zero f g e = refl
-any-same (suc k) f g e = rw (e k (omega arith), any-same k f g (λ t h. e t (omega arith)))
 
 module _ (file : List ℕ) {n m : ℕ} {plan : List ℕ} (r : Ready file n m plan) where
   abbrev edges : List ℕ

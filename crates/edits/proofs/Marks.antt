@@ -1,28 +1,34 @@
--- The netlist in the gate table edited is the file edited. Assumes nothing.
+-- The netlist of a plan edited by marks is edited by what the change touches, and where the plan stands for a file, so is the file. Assumes nothing.
 use mathlib.Core.Path.{_≡_}
 use mathlib.Core.Bool.{Bool}
 use mathlib.Core.List.{List}
 use Prim.Native.Nat.{ℕ}
-use Rattle.netlist.specs.Rule.{Env}
-use Rattle.netlist.specs.Settle.{Edited}
 use Rattle.netlist.specs.declared.Gate.{Gate}
 use Rattle.netlist.specs.Table.{signalCount, netOf}
 use Rattle.netlist.proofs.Agree.{agree-sym, well-formed-agree}
 use Rattle.walks.specs.Marked.{touchesMarked}
 use Rattle.walks.specs.Walks.{EditedBy}
 use Rattle.walks.proofs.Edits.{edited-as, edited-agree}
-use Rattle.column.specs.Compile.{Ready}
+use Rattle.column.specs.Clock.{State, stateOf}
 use Rattle.column.specs.File.{gateAt}
 use Rattle.column.proofs.Netlist.{sound-well-formed}
-use Rattle.calls.proofs.Calls.{ready-sound}
+use Rattle.plan.specs.Plan.{planTable, Ready}
+use Rattle.plan.proofs.Plans.{ready-sound}
+use Rattle.edits.specs.Edits.{EditedFor, EditedPlan}
 
--- an edit of the netlist in the table, by marks that say what a change touches, is one of the file
-pub edited-file : (file : List ℕ) {n m : ℕ} {net order : List ℕ} → Ready file n m net order → {e : Env} {old new : List ℕ} (changed edited : List ℕ) (touches : Gate → Bool)
-    → ((gate : Gate) → touchesMarked changed edited gate ≡ touches gate) → EditedBy net n e changed edited old new
-    → Edited (gateAt file) (signalCount n) e (λ x. touches (gateAt file x)) old new
-edited-file file {n} {net = net} r changed edited touches same d =
-    let g = netOf net n in
-    edited-agree g (gateAt file) (signalCount n) (r .lowered)
-    (well-formed-agree (gateAt file) g (signalCount n) (agree-sym (r .lowered)) (sound-well-formed file (ready-sound file r)))
-    touches
-    (edited-as (λ x. same (g x)) d)
+-- by marks that say what a change touches
+pub edited-plan :
+    (plan : List ℕ) {n : ℕ} {table contents inputs old new : List ℕ} (changed edited : List ℕ) (touches : Gate → Bool) → table ≡ planTable plan n
+    → ((gate : Gate) → touchesMarked changed edited gate ≡ touches gate) → EditedBy n table contents inputs changed edited old new
+    → (flops : List ℕ) → EditedPlan plan n touches (stateOf contents flops) inputs old new
+edited-plan plan {n} changed edited touches t same d flops = edited-as (λ x. same (netOf plan n x)) (rw t at (d flops))
+
+pub edited-file :
+    (file : List ℕ) {n m : ℕ} {plan : List ℕ} → Ready file n m plan → {st : State} {inputs old new : List ℕ} (touches : Gate → Bool)
+    → EditedPlan plan n touches st inputs old new → EditedFor file touches st inputs old new n
+edited-file file {n} {plan = plan} r touches d =
+    let g = netOf plan n in
+    let a = r .represents .gates in
+    edited-agree g (gateAt file) (signalCount n) a
+    (well-formed-agree (gateAt file) g (signalCount n) (agree-sym a) (sound-well-formed file (ready-sound file r)))
+    touches d

@@ -1,9 +1,10 @@
 // The calls on a slice file and lent buffers that change it as it runs: edit an input, edit a table's contents.
-ghost use Rattle.column.specs.Compile.{Ready};
-ghost use Rattle.edits.specs.Edits.{EditsInput, EditsTable};
-use column::TABLE_LIMIT;
+ghost use Rattle.lent.specs.Lent.{was, left};
+ghost use Rattle.column.specs.Clock.{stateWas};
+ghost use Rattle.plan.specs.Plan.{Runnable};
+ghost use Rattle.edits.specs.Edits.{InputPlanned, TablePlanned, EditsInput, EditsTable};
 use column::Verdict;
-use netlist::SIGNAL_LIMIT;
+use plan::PLAN_LIMIT;
 use slicefile::Answer;
 use slicefile::INPUT_LIMIT;
 use slicefile::SLICE_LIMIT;
@@ -11,13 +12,11 @@ use slicefile::SLICE_LIMIT;
 // The most words of contents.
 const CONTENTS_LIMIT: usize = 4 * SLICE_LIMIT;
 
-// Edits an input of an accepted file.
-fn edit_input_accepted(
-    file: &[u8],
+// Edits an input by a plan of n slices and m outside inputs.
+fn edit_input_planned(
+    plan: &[u16],
     n: usize,
     m: usize,
-    net: &[u16],
-    order: &[u16],
     contents: &[u64],
     flops: &[u8],
     inputs: &mut [u8],
@@ -25,11 +24,12 @@ fn edit_input_accepted(
     input: usize,
     byte: u8,
 ) -> Answer
-    requires { ⌜ Ready (now file) n m (now net) (now order) ⌝ }
-    ensures { λ r. ⌜ EditsInput file contents flops inputs values input byte r ⌝ }
+    requires { ⌜ Runnable n m (now plan) ⌝ }
+    ensures { λ r. ⌜ InputPlanned (was plan) n m (stateWas contents flops) input byte (was inputs) (left inputs) (was values) (left values) r ⌝ }
 {
+    let edges = plan::edges(plan, n);
     let bad = (m <= input) | (1 < byte);
-    let number = buffers::edit_refusal(bad, file, n, m, contents, flops, inputs, values);
+    let number = buffers::edit_refusal(bad, edges, n, m, contents, flops, inputs, values);
     if number != 0 {
         return Answer::Refused { number, place: 0 };
     }
@@ -37,17 +37,9 @@ fn edit_input_accepted(
     let mut changed = [0u8; INPUT_LIMIT];
     changed[input] = 1;
     let edited = [0u8; 1];
-    walks::edit_by(
-        net,
-        n,
-        order,
-        contents,
-        flops,
-        inputs,
-        values,
-        &changed,
-        &edited,
-    );
+    let table = plan::table(plan, n);
+    let order = plan::order(plan, n);
+    walks::edit_by(table, n, order, contents, inputs, values, &changed, &edited);
     Answer::Done
 }
 
@@ -63,34 +55,19 @@ pub fn edit_input(
 ) -> Answer
     ensures { λ r. ⌜ EditsInput file contents flops inputs values input byte r ⌝ }
 {
-    let mut net = [0u16; TABLE_LIMIT];
-    let mut order = [0u16; SIGNAL_LIMIT];
-    let v = column::load(file, &mut net, &mut order);
+    let mut plan = [0u16; PLAN_LIMIT];
+    let v = plan::load(file, &mut plan);
     let Verdict::Accepted { n, m } = v else {
         return calls::refusal(v);
     };
-    edit_input_accepted(
-        file,
-        n,
-        m,
-        &net,
-        &order,
-        contents,
-        flops,
-        inputs,
-        values,
-        input,
-        byte,
-    )
+    edit_input_planned(&plan, n, m, contents, flops, inputs, values, input, byte)
 }
 
-// Edits a table's contents of an accepted file.
-fn edit_table_accepted(
-    file: &[u8],
+// Edits a table's contents by a plan of n slices and m outside inputs.
+fn edit_table_planned(
+    plan: &[u16],
     n: usize,
     m: usize,
-    net: &[u16],
-    order: &[u16],
     contents: &mut [u64],
     flops: &[u8],
     inputs: &[u8],
@@ -98,11 +75,12 @@ fn edit_table_accepted(
     table: usize,
     word: u64,
 ) -> Answer
-    requires { ⌜ Ready (now file) n m (now net) (now order) ⌝ }
-    ensures { λ r. ⌜ EditsTable file contents flops inputs values table word r ⌝ }
+    requires { ⌜ Runnable n m (now plan) ⌝ }
+    ensures { λ r. ⌜ TablePlanned (was plan) n m (was contents) (left contents) (was flops) table word (was inputs) (was values) (left values) r ⌝ }
 {
-    let bad = buffers::bad_table(file, n, m, table, word);
-    let number = buffers::edit_refusal(bad, file, n, m, contents, flops, inputs, values);
+    let edges = plan::edges(plan, n);
+    let bad = buffers::bad_table(edges, n, table, word);
+    let number = buffers::edit_refusal(bad, edges, n, m, contents, flops, inputs, values);
     if number != 0 {
         return Answer::Refused { number, place: 0 };
     }
@@ -110,17 +88,9 @@ fn edit_table_accepted(
     let changed = [0u8; 1];
     let mut edited = [0u8; CONTENTS_LIMIT];
     edited[table] = 1;
-    walks::edit_by(
-        net,
-        n,
-        order,
-        contents,
-        flops,
-        inputs,
-        values,
-        &changed,
-        &edited,
-    );
+    let gates = plan::table(plan, n);
+    let order = plan::order(plan, n);
+    walks::edit_by(gates, n, order, contents, inputs, values, &changed, &edited);
     Answer::Done
 }
 
@@ -136,23 +106,10 @@ pub fn edit_table(
 ) -> Answer
     ensures { λ r. ⌜ EditsTable file contents flops inputs values table word r ⌝ }
 {
-    let mut net = [0u16; TABLE_LIMIT];
-    let mut order = [0u16; SIGNAL_LIMIT];
-    let v = column::load(file, &mut net, &mut order);
+    let mut plan = [0u16; PLAN_LIMIT];
+    let v = plan::load(file, &mut plan);
     let Verdict::Accepted { n, m } = v else {
         return calls::refusal(v);
     };
-    edit_table_accepted(
-        file,
-        n,
-        m,
-        &net,
-        &order,
-        contents,
-        flops,
-        inputs,
-        values,
-        table,
-        word,
-    )
+    edit_table_planned(&plan, n, m, contents, flops, inputs, values, table, word)
 }

@@ -16,7 +16,7 @@ use Rattle.netlist.specs.declared.Source.{Source}
 use Rattle.netlist.specs.declared.Source.the-variants.{Constant, Input, Signal}
 use Rattle.netlist.specs.declared.Gate.{Gate}
 use Rattle.netlist.specs.declared.Gate.the-variants.{Lut, ZeroOf, Select, Xor, Same, Stored}
-use Rattle.netlist.specs.Table.{rowLength, signalWire, inputWire, wireCount, inputRoom, codeOf, sourceOf, selectHead, storedHead, gateNumbers, gateWith, gateOf, storeGate, SourceFits, GateFits}
+use Rattle.netlist.specs.Table.{rowLength, signalWire, inputWire, wireCount, inputRoom, codeOf, sourceOf, selectHead, storedHead, gateNumbers, gateWith, gateOf, SourceFits, GateFits}
 
 -- a run of stores leaves what stands before it and after it
 sets-other : (vs l : List ℕ) (i j : ℕ) → (j < i) ⊎ (i + length vs ≤ j) → getD (sets l i vs) j 0 ≡ getD l j 0
@@ -128,20 +128,6 @@ unfolding gateOf
 row-gate table n m x gate f at =
     gate-same n _ _ _ (λ i. sourceOf n (getD (gateNumbers n gate) i 0)) (rw (first x) at (at 0 (lit< tt))) (λ i h. ap (sourceOf n) (at i h))
     ∙ gate-back n m gate f
-
-module _ (table : List ℕ) (n x : ℕ) (gate : Gate) where
-  -- the gate that is stored is the gate that is read
-  pub stored-gate : rowLength * x + rowLength ≤ length table → GateFits n inputRoom gate → gateOf (storeGate table n x gate) n x ≡ gate
-  unfolding storeGate
-  stored-gate fits f = row-gate _ n inputRoom x gate f (put-at table (gateNumbers n gate) x (seven n gate) fits)
-
-  -- any other signal keeps its gate
-  pub kept-gate : (y : ℕ) → (y ≡ x → ⊥) → gateOf (storeGate table n x gate) n y ≡ gateOf table n y
-  unfolding gateOf storeGate
-  kept-gate y d = gate-same n _ _ _ _ (rw (first y) at (at 0 (lit< tt))) (λ i h. ap (sourceOf n) (at i h))
-    where
-      at : (i : ℕ) → i < rowLength → getD (sets table (rowLength * x) (gateNumbers n gate)) (rowLength * y + i) 0 ≡ getD table (rowLength * y + i) 0
-      at = put-other table (gateNumbers n gate) x (seven n gate) y d
 
 -- each number of a list is below a bound
 abbrev Below : ℕ → List ℕ → Type 0

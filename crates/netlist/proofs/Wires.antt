@@ -8,8 +8,8 @@ use native.Mathlib.Decide.{ℕ-discrete, decLt}
 use native.Mathlib.Omega.{arith}
 use borrow.Author.Tests.{lt-ltb, le-ltb}
 use lib.Dec.{eqb, ltb}
-use lib.ListN.{length, getD, set, take, drop, length-set, take-append-drop}
-use lib.Seq.{getD-take, getD-drop, getD-set-same, getD-set-other, take-set-lt, drop-set-add, drop-set-lt, drop-drop}
+use lib.ListN.{length, getD, set, take, drop, length-set, length-append, take-append-drop, List·getD-append}
+use lib.Seq.{getD-take, getD-drop, getD-set-same, getD-set-other, take-set-lt, drop-set-add, drop-set-lt, drop-drop, take-at, drop-at, getD-append-add}
 use Rattle.netlist.specs.declared.Source.{Source}
 use Rattle.netlist.specs.declared.Source.the-variants.{Constant, Input, Signal}
 use Rattle.netlist.specs.declared.Gate.the-variants.{Lut, ZeroOf, Select, Xor, Same, Stored}
@@ -131,3 +131,25 @@ wires-are {n} (a ∷ b ∷ rest) w =
     ap₂ (λ (x y : ℕ). x ∷ y ∷ rest) (w .low) (w .high)
     ∙ ap (λ (l : List ℕ). 0 ∷ 1 ∷ l) (sym (take-append-drop (signalCount n) rest))
     ∙ ap (λ (l : List ℕ). 0 ∷ 1 ∷ (take (signalCount n) rest ++ l)) (drop-drop (signalCount n) signalWire (a ∷ b ∷ rest))
+
+-- the wires of a value table and of inputs, all bits
+module _ (n m : ℕ) (inputs values : List ℕ) (i : length inputs ≡ m) (v : length values ≡ signalCount n) where
+  pub wires-of : ((c : ℕ) → getD inputs c 0 < 2) → ((c : ℕ) → getD values c 0 < 2) → IsWires n m (wiresOf inputs values)
+  wires-of a b = record { size = omega (arith, length-append values inputs); low = refl; high = refl; bits = bits }
+    where
+      rest : (c : ℕ) → Dec (c < length values) → getD (values ++ inputs) c 0 < 2
+      rest c (yes h) = rw (List·getD-append values inputs 0 c h) (b c)
+      rest c (no h) =
+          let e : length values + (c - length values) ≡ c = omega arith in
+          rw e at (rw (← getD-append-add values inputs (c - length values) 0) at (a (c - length values)))
+
+      bits : (c : ℕ) → getD (wiresOf inputs values) c 0 < 2
+      bits zero = omega arith
+      bits (suc zero) = omega arith
+      bits (suc (suc c)) = rest c (decLt c (length values))
+
+  pub on-inputs : inputsOn n (wiresOf inputs values) ≡ inputs
+  on-inputs = sym (drop-drop (signalCount n) signalWire (wiresOf inputs values)) ∙ drop-at values inputs (signalCount n) v
+
+  pub on-values : valuesOn n (wiresOf inputs values) ≡ values
+  on-values = take-at values inputs (signalCount n) v

@@ -7,7 +7,6 @@ use Prim.Native.Nat.{ℕ, _+_, _*_, _-_, _/_, _%_, _≤_, _<_}
 use mathlib.Core.Path.{_≡_}
 use lib.Dec.{eqb, ltb}
 use lib.ListN.{length, getD, take}
-use lib.Seq.{sets}
 use Rattle.netlist.specs.declared.Source.{Source}
 use Rattle.netlist.specs.declared.Source.the-variants.{Constant, Input, Signal}
 use Rattle.netlist.specs.declared.Gate.{Gate}
@@ -104,10 +103,6 @@ gateOf table n x = gateWith n (getD table (rowLength * x) 0) (λ i. sourceOf n (
 -- the netlist of n slices whose table stands at the front of a list of numbers
 abbrev pub netOf : List ℕ → ℕ → ℕ → Gate
 netOf numbers n = gateOf (take (tableLength n) numbers) n
-
--- the table with signal x's gate put into it
-unfoldable pub storeGate : List ℕ → ℕ → ℕ → Gate → List ℕ
-storeGate table n x gate = sets table (rowLength * x) (gateNumbers n gate)
 
 -- a source of a netlist of n slices and m outside inputs
 abbrev pub SourceFits : ℕ → ℕ → Source → Type 0

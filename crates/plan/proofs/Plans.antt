@@ -45,6 +45,27 @@ pub loaded-refused :
     (file net order plan : List ℕ) {v : Verdict} {k p : ℕ} → v ≡ Refused k p → NetLoaded file net order v → Loaded file plan v
 loaded-refused file net order plan e l = rw e (rw e at l)
 
+-- what a plan that can be run on gives, part by part
+module _ {n m : ℕ} {plan : List ℕ} (r : Runnable n m plan) where
+  pub edges-long : {edges : List ℕ} → edges ≡ planEdges plan n → length edges ≡ edgeLength * n
+  edges-long e = rw e (length-take-le (edgeLength * n) (drop (edgesPlace n) plan) (omega (arith, length-drop (edgesPlace n) plan, r .room)))
+
+  pub parts-walk :
+      {table order : List ℕ} {count : ℕ} → table ≡ planTable plan n → order ≡ planOrder plan n → count ≡ m → Walkable n count table order
+  parts-walk t o i = rw (t, o, i) (r .walk)
+
+  pub parts-edges : {edges wires : List ℕ} → edges ≡ planEdges plan n → IsWires n m wires → EdgesFit n wires edges
+  parts-edges e w = rw e (r .edges _ w)
+
+-- the edge from wires that hold the inputs and the value table
+pub parts-clocked :
+    {n m : ℕ} (plan words bytes : List ℕ) {edges wires inputs values words′ bytes′ : List ℕ} → edges ≡ planEdges plan n → IsWires n m wires
+    → inputsOn n wires ≡ inputs → valuesOn n wires ≡ values → words′ ≡ wordsBy wires edges n words → bytes′ ≡ bytesBy wires edges n bytes
+    → stateOf words′ bytes′ ≡ clockedBy plan n (stateOf words bytes) inputs values
+parts-clocked {n} plan words bytes {wires = wires} e w i v p q =
+    ap₂ stateOf p q
+    ∙ ap₂ (λ (l k : List ℕ). stateOf (wordsBy l k n words) (bytesBy l k n bytes)) (wires-are wires w ∙ ap₂ wiresOf i v) e
+
 module _ (file : List ℕ) {n m : ℕ} {plan : List ℕ} (r : Ready file n m plan) where
   pub ready-sound : SoundFile file n m
   ready-sound = sound-file file (accepted-sound file (r .verdict))
@@ -107,7 +128,7 @@ module _ (file : List ℕ) {n m : ℕ} {plan : List ℕ} (r : Ready file n m pla
       (st : State) (inputs values wires : List ℕ) → IsWires n m wires → inputsOn n wires ≡ inputs → valuesOn n wires ≡ values
       → clockedBy plan n st inputs values ≡ clocked file st inputs values
   clocked-same st inputs values wires w i v =
-      ap (λ (l : List ℕ). stateOf (wordsBy l (planEdges plan n) n (st .contents)) (bytesBy l (planEdges plan n) n (st .flops))) (sym (wires-are wires w ∙ ap₂ wiresOf i v))
+      sym (parts-clocked plan (st .contents) (st .flops) refl w i v refl refl)
       ∙ ready-clocked w (st .contents) (st .flops)
       ∙ ap₂ (clocked file st) i v
 

@@ -2,13 +2,13 @@
 use mathlib.Core.Path.{_≡_}
 use mathlib.Core.Bool.{false, not, _&&_, _||_}
 use mathlib.Core.List.{List}
-use Prim.Native.Nat.{ℕ, _+_, _%_, _^_, _<_}
-use borrow.Author.Tests.{eq-eqb, eqb-true, not-false}
-use lib.Dec.{leb, eqb}
+use Prim.Native.Nat.{ℕ, _+_, _%_, _^_, _≤_, _<_}
+use borrow.Author.Tests.{eq-eqb, eqb-true, not-false, ltb-false}
+use lib.Dec.{leb, ltb, eqb}
 use Rattle.slicefile.specs.Lists.{anyBelow}
-use Rattle.slicefile.specs.Format.{numberByte, kind, mode, shiftData, contentsWord, carryStart}
+use Rattle.slicefile.specs.Format.{numberByte, kind, mode, shiftData, contentsWord, carryData, carryStart, muxChoice, mainInput, secondInput, setResetUsed}
 use Rattle.slicefile.proofs.Tests.{or-left, or-right, none-below}
-use Rattle.rules.specs.Rules.{given, modeIs, badChoice, letterCombination, badCombination, bodyRefusal}
+use Rattle.rules.specs.Rules.{given, modeIs, letterChoice, badChoice, letterCombination, badCombination, bodyRefusal}
 use Rattle.rules.proofs.Refusals.{orElse-left, orElse-right, given-none}
 
 module _ (n m s : ℕ) (body : List ℕ) (ok : bodyRefusal n m s body ≡ 0) where
@@ -41,3 +41,19 @@ module _ (n m s : ℕ) (body : List ℕ) (ok : bodyRefusal n m s body ≡ 0) whe
   -- and the contents of one in shift mode have 32 bits
   pub shift-fits : (l : ℕ) → l < 4 → (modeIs body 2 l && leb (2 ^ 32) (contentsWord body l)) ≡ false
   shift-fits l h = two-parts l h .1
+
+  -- its mode is 0, 1 or 2
+  pub mode-listed : (l : ℕ) → l < 4 → mode body l ≤ 2
+  unfolding bodyRefusal badChoice letterChoice
+  mode-listed l h =
+      let e = orElse-right (given 4 (not (eqb (numberByte body) (s % 256)))) _ ok in
+      let choice = given-none 4 (badChoice body) (orElse-left (given 5 (badChoice body)) _ e) in
+      let letters = or-right (ltb 1 (kind body) || ltb 3 (carryStart body) || ltb 1 (setResetUsed body)) (anyBelow 4 (letterChoice body)) choice in
+      let a = ltb 2 (mode body l) in
+      let b = ltb 1 (shiftData body l) in
+      let c = ltb 1 (carryData body l) in
+      let d = ltb 4 (muxChoice body l) in
+      let f = ltb 5 (mainInput body l) in
+      let g = ltb 1 (secondInput body l) in
+      let one = none-below 4 (letterChoice body) letters l h in
+      ltb-false 2 (mode body l) (or-left a b (or-left (a || b) c (or-left (a || b || c) d (or-left (a || b || c || d) f (or-left (a || b || c || d || f) g one)))))

@@ -1,3 +1,3 @@
-pub mod Moving
 pub mod Demands
 pub mod Chain
+pub mod Planned

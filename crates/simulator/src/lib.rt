@@ -2,36 +2,41 @@
 ghost use mathlib.Core.Path.{_≡_};
 ghost use Prim.Native.Nat.{_*_};
 ghost use lib.ListN.{length};
-ghost use Rattle.lent.specs.Lent.{was};
-ghost use Rattle.column.specs.Check.{IsSound};
-ghost use Rattle.column.specs.Clock.{stateWas, stateLeft, clocked};
-ghost use Rattle.column.specs.Compile.{Ready};
-ghost use Rattle.simulator.specs.Running.{Settles, Clocks};
-use column::TABLE_LIMIT;
+ghost use Rattle.lent.specs.Lent.{was, left};
+ghost use Rattle.netlist.specs.Table.{signalCount, wireCount};
+ghost use Rattle.evaluation.specs.Numbers.{Bits};
+ghost use Rattle.column.specs.Clock.{stateWas, stateLeft};
+ghost use Rattle.plan.specs.Plan.{Runnable};
+ghost use Rattle.simulator.specs.Running.{SettlePlanned, ClockPlanned, Clocked, Settles, Clocks};
 use column::Verdict;
-use netlist::SIGNAL_LIMIT;
+use netlist::SIGNAL_WIRE;
+use netlist::SLICE_SIGNALS;
+use netlist::WIRE_LIMIT;
+use plan::PLAN_LIMIT;
 use slicefile::Answer;
 
-// Settles an accepted file.
-fn settle_accepted(
-    file: &[u8],
+// Settles by a plan of n slices and m outside inputs, on lent wires.
+fn settle_planned(
+    plan: &[u16],
     n: usize,
     m: usize,
-    net: &[u16],
-    order: &[u16],
     contents: &[u64],
     flops: &[u8],
     inputs: &[u8],
     values: &mut [u8],
+    wires: &mut [u8],
 ) -> Answer
-    requires { ⌜ Ready (now file) n m (now net) (now order) ⌝ }
-    ensures { λ r. ⌜ Settles file contents flops inputs values r ⌝ }
+    requires { ⌜ Runnable n m (now plan) × (length (now wires) ≡ wireCount n m) × Bits (now wires) ⌝ }
+    ensures { λ r. ⌜ SettlePlanned (was plan) n m (stateWas contents flops) (was inputs) (was values) (left values) r ⌝ }
 {
-    let number = buffers::settle_refusal(file, n, m, contents, flops, inputs, values);
+    let edges = plan::edges(plan, n);
+    let number = buffers::settle_refusal(edges, n, m, contents, flops, inputs, values);
     if number != 0 {
         return Answer::Refused { number, place: 0 };
     }
-    walks::settle_by(net, n, order, contents, flops, inputs, values);
+    let table = plan::table(plan, n);
+    let order = plan::order(plan, n);
+    walks::settle_by(table, n, order, contents, flops, inputs, values, wires);
     Answer::Done
 }
 
@@ -45,58 +50,58 @@ pub fn settle(
 ) -> Answer
     ensures { λ r. ⌜ Settles file contents flops inputs values r ⌝ }
 {
-    let mut net = [0u16; TABLE_LIMIT];
-    let mut order = [0u16; SIGNAL_LIMIT];
-    let v = column::load(file, &mut net, &mut order);
+    let mut plan = [0u16; PLAN_LIMIT];
+    let v = plan::load(file, &mut plan);
     let Verdict::Accepted { n, m } = v else {
         return calls::refusal(v);
     };
-    settle_accepted(file, n, m, &net, &order, contents, flops, inputs, values)
+    let mut wires = [0u8; WIRE_LIMIT];
+    let count = SIGNAL_WIRE + SLICE_SIGNALS * n + m;
+    settle_planned(&plan, n, m, contents, flops, inputs, values, &mut wires[..count])
 }
 
-// Moves the state of a sound file over the clock edge, from the table settled before it.
-fn move_state(
-    file: &[u8],
+// One clock by a plan of n slices, on lent wires, for buffers that are not refused.
+pub fn clock_by(
+    plan: &[u16],
     n: usize,
-    m: usize,
-    inputs: &[u8],
-    values: &[u8],
-    contents: &mut [u64],
-    flops: &mut [u8],
-)
-    requires { ⌜ IsSound (now file) n m ⌝ }
-    requires { ⌜ (length (now contents) ≡ 4 * n) × (length (now flops) ≡ n) ⌝ }
-    ensures { λ _. ⌜ stateLeft contents flops ≡ clocked (was file) (stateWas contents flops) (was inputs) (was values) ⌝ }
-{
-    let mut s = 0;
-    while s < n {
-        let body = column::slice_body(file, n, m, s);
-        let numbers = clocknumbers::edge_of(n, m, s, body);
-        clockedge::move_slice(&numbers, s, inputs, values, contents, flops);
-        s += 1;
-    }
-}
-
-// Clocks an accepted file.
-fn clock_accepted(
-    file: &[u8],
-    n: usize,
-    m: usize,
-    net: &[u16],
-    order: &[u16],
     contents: &mut [u64],
     flops: &mut [u8],
     inputs: &[u8],
     values: &mut [u8],
-) -> Answer
-    requires { ⌜ Ready (now file) n m (now net) (now order) ⌝ }
-    ensures { λ r. ⌜ Clocks file contents flops inputs values r ⌝ }
+    wires: &mut [u8],
+)
+    requires { ⌜ Runnable n (length (now inputs)) (now plan) × (length (now wires) ≡ wireCount n (length (now inputs))) ⌝ }
+    requires { ⌜ (length (now contents) ≡ 4 * n) × (length (now flops) ≡ n) × (length (now values) ≡ signalCount n) ⌝ }
+    requires { ⌜ Bits (now inputs) × Bits (now wires) ⌝ }
+    ensures { λ _. ⌜ Clocked (was plan) n (stateWas contents flops) (stateLeft contents flops) (was inputs) (left values) (left wires) ⌝ }
 {
-    let answer = settle_accepted(file, n, m, net, order, contents, flops, inputs, values);
-    let Answer::Done = answer else {
-        return answer;
-    };
-    move_state(file, n, m, inputs, values, contents, flops);
+    let table = plan::table(plan, n);
+    let order = plan::order(plan, n);
+    walks::settle_by(table, n, order, contents, flops, inputs, values, wires);
+    let edges = plan::edges(plan, n);
+    clockedge::move_all(edges, n, wires, contents, flops);
+}
+
+// Clocks by a plan of n slices and m outside inputs, on lent wires.
+fn clock_planned(
+    plan: &[u16],
+    n: usize,
+    m: usize,
+    contents: &mut [u64],
+    flops: &mut [u8],
+    inputs: &[u8],
+    values: &mut [u8],
+    wires: &mut [u8],
+) -> Answer
+    requires { ⌜ Runnable n m (now plan) × (length (now wires) ≡ wireCount n m) × Bits (now wires) ⌝ }
+    ensures { λ r. ⌜ ClockPlanned (was plan) n m (stateWas contents flops) (stateLeft contents flops) (was inputs) (was values) (left values) r ⌝ }
+{
+    let edges = plan::edges(plan, n);
+    let number = buffers::settle_refusal(edges, n, m, contents, flops, inputs, values);
+    if number != 0 {
+        return Answer::Refused { number, place: 0 };
+    }
+    clock_by(plan, n, contents, flops, inputs, values, wires);
     Answer::Done
 }
 
@@ -110,11 +115,12 @@ pub fn clock(
 ) -> Answer
     ensures { λ r. ⌜ Clocks file contents flops inputs values r ⌝ }
 {
-    let mut net = [0u16; TABLE_LIMIT];
-    let mut order = [0u16; SIGNAL_LIMIT];
-    let v = column::load(file, &mut net, &mut order);
+    let mut plan = [0u16; PLAN_LIMIT];
+    let v = plan::load(file, &mut plan);
     let Verdict::Accepted { n, m } = v else {
         return calls::refusal(v);
     };
-    clock_accepted(file, n, m, &net, &order, contents, flops, inputs, values)
+    let mut wires = [0u8; WIRE_LIMIT];
+    let count = SIGNAL_WIRE + SLICE_SIGNALS * n + m;
+    clock_planned(&plan, n, m, contents, flops, inputs, values, &mut wires[..count])
 }

@@ -59,3 +59,9 @@ same-test false false f g = refl
 pub both : (a b : Bool) → (a && b) ≡ true → (a ≡ true) × (b ≡ true)
 both true b e = (refl, e)
 both false b e = (e, cc)
+
+-- tests that agree below k
+pub any-same : (k : ℕ) (f g : ℕ → Bool) → ((l : ℕ) → l < k → f l ≡ g l) → anyBelow k f ≡ anyBelow k g
+unfolding anyBelow
+any-same zero f g e = refl
+any-same (suc k) f g e = rw (e k (omega arith), any-same k f g (λ l h. e l (omega arith)))

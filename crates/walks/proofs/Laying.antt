@@ -25,6 +25,15 @@ put-bits {f} {at} {k} {old} {new} p small bits c = by (decLt c at) (decLt c (at 
         let e : at + (c - at) ≡ c = omega arith in
         rw e at (rw (← p .put (c - at) (omega arith)) at (small (c - at) (omega arith)))
 
+-- and so does a bit stored among bits
+pub bits-set : (l : List ℕ) (i v : ℕ) → v < 2 → Bits l → Bits (set l i v)
+bits-set l i v small b c = by (ℕ-discrete c i) (decLt i (length l))
+  where
+    by : Dec (c ≡ i) → Dec (i < length l) → getD (set l i v) c 0 < 2
+    by (yes e) (yes h) = rw (e, getD-set-same l i v 0 h) small
+    by (yes e) (no h) = rw (set-out l i v (omega arith)) (b c)
+    by (no d) h = rw (getD-set-other l i c v 0 d) (b c)
+
 -- the elements of the value table and of the inputs on the wires
 pub value-on : (n : ℕ) (wires : List ℕ) (x : ℕ) → x < signalCount n → getD (valuesOn n wires) x 0 ≡ getD wires (signalWire + x) 0
 value-on n wires x h = getD-take (signalCount n) (drop signalWire wires) x 0 h ∙ getD-drop signalWire wires x 0
@@ -58,20 +67,12 @@ laid-inputs n inputs old new size bits low p = (
     size = p .long ∙ length-set (set old 0 0) 1 1 ∙ length-set old 0 0 ∙ size;
     low = p .kept 0 (inl (omega arith)) ∙ getD-set-other (set old 0 0) 1 0 1 0 (λ e. omega arith) ∙ getD-set-same old 0 0 0 (omega arith);
     high = p .kept 1 (inl (omega arith)) ∙ getD-set-same (set old 0 0) 1 1 0 (omega (arith, length-set old 0 0));
-    bits = put-bits p (λ i h. bits i) (stored-bit (set old 0 0) 1 1 (omega arith) (stored-bit old 0 0 (omega arith) low));
+    bits = put-bits p (λ i h. bits i) (bits-set (set old 0 0) 1 1 (omega arith) (bits-set old 0 0 (omega arith) low));
   },
   ext-getD 0 (inputsOn n new) inputs
   (length-drop (inputWire n) new ∙ omega (arith, p .long, length-set (set old 0 0) 1 1, length-set old 0 0))
   (λ i h. getD-drop (inputWire n) new i 0 ∙ p .put i (omega (arith, length-drop (inputWire n) new, p .long, length-set (set old 0 0) 1 1, length-set old 0 0))),
 )
-  where
-    stored-bit : (l : List ℕ) (i v : ℕ) → v < 2 → Bits l → Bits (set l i v)
-    stored-bit l i v small b c = by (ℕ-discrete c i) (decLt i (length l))
-      where
-        by : Dec (c ≡ i) → Dec (i < length l) → getD (set l i v) c 0 < 2
-        by (yes e) (yes h) = rw (e, getD-set-same l i v 0 h) small
-        by (yes e) (no h) = rw (set-out l i v (omega arith)) (b c)
-        by (no d) h = rw (getD-set-other l i c v 0 d) (b c)
 
 -- a value table put on the signals' wires
 pub laid-values :
