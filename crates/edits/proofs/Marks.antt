@@ -18,10 +18,10 @@ use Rattle.edits.specs.Edits.{EditedFor, EditedPlan}
 
 -- by marks that say what a change touches
 pub edited-plan :
-    (plan : List ℕ) {n : ℕ} {table contents inputs old new : List ℕ} (changed edited : List ℕ) (touches : Gate → Bool) → table ≡ planTable plan n
+    (plan : List ℕ) (n : ℕ) {table contents inputs old new : List ℕ} (changed edited : List ℕ) (touches : Gate → Bool) → table ≡ planTable plan n
     → ((gate : Gate) → touchesMarked changed edited gate ≡ touches gate) → EditedBy n table contents inputs changed edited old new
     → (flops : List ℕ) → EditedPlan plan n touches (stateOf contents flops) inputs old new
-edited-plan plan {n} changed edited touches t same d flops = edited-as (λ x. same (netOf plan n x)) (rw t at (d flops))
+edited-plan plan n changed edited touches t same d flops = edited-as (λ x. same (netOf plan n x)) (rw t at (d flops))
 
 pub edited-file :
     (file : List ℕ) {n m : ℕ} {plan : List ℕ} → Ready file n m plan → {st : State} {inputs old new : List ℕ} (touches : Gate → Bool)
