@@ -85,7 +85,7 @@ fn edit_table_planned(
         return Answer::Refused { number, place: 0 };
     }
     contents[table] = word;
-    let changed = [0u8; 1];
+    let changed = [0u8; INPUT_LIMIT];
     let mut edited = [0u8; CONTENTS_LIMIT];
     edited[table] = 1;
     let gates = plan::table(plan, n);

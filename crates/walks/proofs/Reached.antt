@@ -1,11 +1,12 @@
 -- The test whether a change reaches a gate, by marks of inputs, tables and signals. Assumes nothing.
 use mathlib.Core.Path.{_≡_, refl, sym, _∙_, ap, ap₂}
-use mathlib.Core.Bool.{Bool, true, false, _||_, or-comm, or-assoc, or-false}
+use mathlib.Core.Bool.{Bool, true, false, _&&_, _||_, or-comm, or-assoc, or-false}
 use mathlib.Core.List.{List, [], _∷_}
-use Prim.Native.Nat.{ℕ, _<_}
-use native.Mathlib.Decide.{ℕ-discrete}
-use borrow.Author.Tests.{eq-eqb, ne-eqb}
-use lib.Dec.{eqb, ltb}
+use Prim.Native.Nat.{ℕ, _-_, _%_, _≤_, _<_}
+use native.Mathlib.Decide.{ℕ-discrete, decLt}
+use native.Mathlib.Omega.{arith}
+use borrow.Author.Tests.{eq-eqb, ne-eqb, lt-ltb, le-ltb, lt-leb, le-leb}
+use lib.Dec.{eqb, ltb, leb}
 use lib.ListN.{set, replicate, length-replicate}
 use lib.Seq.{getD-set-same, getD-set-other}
 use Rattle.netlist.specs.declared.Source.{Source}
@@ -14,6 +15,7 @@ use Rattle.netlist.specs.declared.Gate.{Gate}
 use Rattle.netlist.specs.declared.Gate.the-variants.{Lut, ZeroOf, Select, Xor, Same, Stored}
 use Rattle.netlist.specs.Rule.{sourcesOf, signalsIn, readsOf, isInput, anySource, touchesInput, touchesTable}
 use Rattle.netlist.specs.Settle.{isMarked, anyMarked}
+use Rattle.netlist.specs.Table.{signalLimit, signalCount, signalWire, inputWire, sourceOf}
 use Rattle.netlist.proofs.Zeros.{zeros-at}
 use Rattle.walks.specs.Marked.{sourceReached, tableMarked, touchesMarked, gateReached}
 
@@ -25,6 +27,24 @@ or-middle : (a b c : Bool) → (a || (b || c)) ≡ (b || (a || c))
 or-middle true true c = refl
 or-middle true false c = refl
 or-middle false b c = refl
+
+-- the tests of a number, by its place among the wires
+pub number-tests :
+    (n : ℕ) (inputs signals : List ℕ) (c : ℕ) → signalCount n ≤ signalLimit
+    → ((leb signalWire c && ltb c (inputWire n) && isMarked signals ((c - signalWire) % signalLimit)) || (leb (inputWire n) c && isMarked inputs (c - inputWire n)))
+    ≡ sourceReached inputs signals (sourceOf n c)
+unfolding sourceOf
+number-tests n inputs signals c few = by (decLt c signalWire) (decLt c (inputWire n))
+  where
+    by : Dec (c < signalWire) → Dec (c < inputWire n)
+        → ((leb signalWire c && ltb c (inputWire n) && isMarked signals ((c - signalWire) % signalLimit)) || (leb (inputWire n) c && isMarked inputs (c - inputWire n)))
+        ≡ sourceReached inputs signals (sourceOf n c)
+    by (yes l) d = rw (lt-ltb c signalWire l, lt-leb signalWire c l, lt-leb (inputWire n) c (omega arith))
+    by (no l) (yes h) =
+        let e : (c - signalWire) % signalLimit ≡ c - signalWire = omega arith in
+        rw (le-ltb c signalWire (omega arith), lt-ltb c (inputWire n) h, le-leb signalWire c (omega arith), lt-leb (inputWire n) c h, e) (or-false (isMarked signals (c - signalWire)))
+    by (no l) (no h) =
+        rw (le-ltb c signalWire (omega arith), le-ltb c (inputWire n) (omega arith), le-leb signalWire c (omega arith), le-leb (inputWire n) c (omega arith))
 
 -- a source is reached by the inputs' marks or by the signals' marks
 sources-split :

@@ -1,7 +1,7 @@
 -- A change given by marks: a byte for each outside input and one for each table, not 0 where it changes. Past the end nothing is marked.
 use mathlib.Core.Bool.{Bool, false, _||_}
 use mathlib.Core.List.{List, []}
-use Prim.Native.Nat.{ℕ, zero, suc}
+use Prim.Native.Nat.{ℕ, zero, suc, _+_, _<_}
 use lib.ListN.{getD}
 use Rattle.netlist.specs.declared.Source.{Source}
 use Rattle.netlist.specs.declared.Source.the-variants.{Constant, Input, Signal}
@@ -9,13 +9,17 @@ use Rattle.netlist.specs.declared.Gate.{Gate}
 use Rattle.netlist.specs.declared.Gate.the-variants.{Lut, ZeroOf, Select, Xor, Same, Stored}
 use Rattle.netlist.specs.Rule.{sourcesOf, readsOf, anySource}
 use Rattle.netlist.specs.Settle.{isMarked, anyMarked}
-use Rattle.netlist.specs.Table.{sourceOf}
+use Rattle.netlist.specs.Table.{wireCount, inputRoom, sourceOf}
 
 -- the source is a marked outside input or a marked signal
 abbrev pub sourceReached : List ℕ → List ℕ → Source → Bool
 sourceReached inputs signals (Constant b) = false
 sourceReached inputs signals (Input j) = isMarked inputs j
 sourceReached inputs signals (Signal y) = isMarked signals y
+
+-- the k numbers from place i are wires of some netlist of n slices
+abbrev pub NumbersFit : ℕ → List ℕ → ℕ → ℕ → Type 0
+NumbersFit n numbers i k = (j : ℕ) → j < k → getD numbers (i + j) 0 < wireCount n inputRoom
 
 -- one of the k sources from place i of a row of numbers is reached, by a test of a source
 unfoldable pub anyReached : ℕ → (Source → Bool) → List ℕ → ℕ → ℕ → Bool

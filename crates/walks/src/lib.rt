@@ -1,16 +1,16 @@
 // The walks along an order that settle or edit a value table. They go over the wires of a netlist: its inputs are laid on them first, and the value
 // table is read off them last.
 ghost use mathlib.Core.Path.{_≡_};
-ghost use Prim.Native.Nat.{_+_, _*_, _≤_, _<_};
+ghost use Prim.Native.Nat.{_+_, _*_, _-_, _≤_, _<_};
 ghost use lib.ListN.{length};
 ghost use Rattle.lent.specs.Lent.{was, left};
 ghost use Rattle.lent.specs.Put.{Put, PutAll};
 ghost use Rattle.netlist.specs.Rule.{bitAt};
 ghost use Rattle.netlist.specs.Settle.{isMarked};
-ghost use Rattle.netlist.specs.Table.{signalLimit, signalCount, inputRoom, inputWire, wireCount, sourceOf, IsTable, gateOf};
+ghost use Rattle.netlist.specs.Table.{rowLength, signalLimit, signalCount, inputRoom, inputWire, wireCount, sourceOf, IsTable, gateOf};
 ghost use Rattle.netlist.specs.Wires.{IsWires, valuesOn, inputsOn};
 ghost use Rattle.evaluation.specs.Numbers.{Bits};
-ghost use Rattle.walks.specs.Marked.{sourceReached, anyReached, gateReached};
+ghost use Rattle.walks.specs.Marked.{NumbersFit, sourceReached, anyReached, gateReached};
 ghost use Rattle.walks.specs.Walks.{Walkable, StillWires, FlopsOn, SettledOn, SettledBy, EditedOn, EditedBy};
 use netlist::FIRST_FLOP;
 use netlist::ROW;
@@ -134,25 +134,32 @@ fn is_marked(marks: &[u8], x: usize) -> bool
     if x < marks.len() { 0 < marks[x] } else { false }
 }
 
-// Whether the source of a number is a marked input or a marked signal.
+// How far a wire is past the first of a kind, 0 where it comes before it.
+fn past(wire: usize, first: usize) -> usize
+    ensures { λ r. ⌜ r ≡ wire - first ⌝ }
+{
+    if wire < first { 0 } else { wire - first }
+}
+
+// Whether the source of a number is a marked input or a marked signal. Both marks are read before their tests count, so that it takes no branch.
 fn number_reached(n: usize, number: u16, changed: &[u8], marks: &[u8]) -> bool
-    requires { ⌜ signalCount n ≤ signalLimit ⌝ }
+    requires { ⌜ (signalCount n ≤ signalLimit) × (length (now changed) ≡ inputRoom) × (length (now marks) ≡ signalLimit) ⌝ }
+    requires { ⌜ number < wireCount n inputRoom ⌝ }
     ensures { λ r. ⌜ r ≡ sourceReached (was changed) (was marks) (sourceOf n number) ⌝ }
 {
     let wire = number as usize;
-    if wire < SIGNAL_WIRE {
-        return false;
-    }
     let first_input = SIGNAL_WIRE + SLICE_SIGNALS * n;
-    if wire < first_input {
-        return is_marked(marks, wire - SIGNAL_WIRE);
-    }
-    is_marked(changed, wire - first_input)
+    let mark = marks[past(wire, SIGNAL_WIRE) % SIGNAL_LIMIT];
+    let change = changed[past(wire, first_input)];
+    let read = (SIGNAL_WIRE <= wire) & (wire < first_input) & (0 < mark);
+    let driven = (first_input <= wire) & (0 < change);
+    read | driven
 }
 
 // Whether the source of one of the k numbers from place i is.
 fn any_reached(n: usize, numbers: &[u16], i: usize, k: usize, changed: &[u8], marks: &[u8]) -> bool
-    requires { ⌜ (signalCount n ≤ signalLimit) × (i + k ≤ length (now numbers)) ⌝ }
+    requires { ⌜ (signalCount n ≤ signalLimit) × (length (now changed) ≡ inputRoom) × (length (now marks) ≡ signalLimit) ⌝ }
+    requires { ⌜ (i + k ≤ length (now numbers)) × NumbersFit n (now numbers) i k ⌝ }
     ensures { λ r. ⌜ r ≡ anyReached n (sourceReached (was changed) (was marks)) (was numbers) i k ⌝ }
 {
     let mut found = false;
@@ -173,7 +180,8 @@ fn gate_reached(
     edited: &[u8],
     marks: &[u8],
 ) -> bool
-    requires { ⌜ IsTable n (now table) × (x < signalCount n) ⌝ }
+    requires { ⌜ IsTable n (now table) × (x < signalCount n) × NumbersFit n (now table) (rowLength * x + 1) 6 ⌝ }
+    requires { ⌜ (length (now changed) ≡ inputRoom) × (length (now marks) ≡ signalLimit) ⌝ }
     ensures { λ r. ⌜ r ≡ gateReached (was changed) (was edited) (was marks) (gateOf (was table) n x) ⌝ }
 {
     let at = ROW * x;
@@ -208,7 +216,7 @@ fn edit_wires(
     edited: &[u8],
     wires: &mut [u8],
 )
-    requires { ⌜ Walkable n m (now table) (now order) × IsWires n m (now wires) ⌝ }
+    requires { ⌜ Walkable n m (now table) (now order) × IsWires n m (now wires) × (m ≤ inputRoom) × (length (now changed) ≡ inputRoom) ⌝ }
     ensures { λ _. ⌜ EditedOn n m (was table) (was contents) (was changed) (was edited) (was wires) (left wires) ⌝ }
 {
     let mut marks = [0u8; SIGNAL_LIMIT];
@@ -239,7 +247,7 @@ pub fn edit_by(
     edited: &[u8],
 )
     requires { ⌜ Walkable n (length (now inputs)) (now table) (now order) × (length (now values) ≡ signalCount n) ⌝ }
-    requires { ⌜ (length (now inputs) ≤ inputRoom) × Bits (now inputs) × Bits (now values) ⌝ }
+    requires { ⌜ (length (now inputs) ≤ inputRoom) × (length (now changed) ≡ inputRoom) × Bits (now inputs) × Bits (now values) ⌝ }
     ensures { λ _. ⌜ EditedBy n (was table) (was contents) (was inputs) (was changed) (was edited) (was values) (left values) ⌝ }
 {
     let m = inputs.len();

@@ -90,7 +90,7 @@ edit-by-requires c κs =
     let b = begin e in
     let p = edit-passed _ _ _ _ _ _ _ (none e) in
     let long = length-set (b .args .inputs .now) (b .args .input) (b .args .byte) ∙ p .0 .inputs in
-    ((parts-walk (b .pre) (t .table .ensures) (o .order .ensures) long, p .0 .values), (omega (arith, long, b .pre .narrow), bits-set (b .args .inputs .now) (b .args .input) (b .args .byte) (small e) (p .1), p .2))
+    ((parts-walk (b .pre) (t .table .ensures) (o .order .ensures) long, p .0 .values), (omega (arith, long, b .pre .narrow), search needs, bits-set (b .args .inputs .now) (b .args .input) (b .args .byte) (small e) (p .1), p .2))
 
 same-length-3 : tie.Need-same-length-3
 same-length-3 c = search needs

@@ -5,7 +5,7 @@ use native.Mathlib.Omega.{arith}
 use borrow.Author.Needs.{needs}
 use borrow.Author.Tests.{leb-false}
 use Rattle.netlist.specs.Rule.{touchesTable}
-use Rattle.slicefile.specs.Format.{sliceLimit}
+use Rattle.slicefile.specs.Format.{sliceLimit, inputLimit}
 use Rattle.slicefile.proofs.Tests.{or-left}
 use Rattle.walks.proofs.Reached.{marks-one-table}
 use Rattle.column.specs.Clock.{stateOf}
@@ -89,7 +89,7 @@ edit-by-requires c κs =
     let t = o .before in
     let b = begin (t .before) in
     let p = edit-passed _ _ _ _ _ _ _ (none (t .before)) in
-    ((parts-walk (b .pre) (t .table .ensures) (o .order .ensures) (p .0 .inputs), p .0 .values), (omega (arith, p .0 .inputs, b .pre .narrow), p .1, p .2))
+    ((parts-walk (b .pre) (t .table .ensures) (o .order .ensures) (p .0 .inputs), p .0 .values), (omega (arith, p .0 .inputs, b .pre .narrow), search needs, p .1, p .2))
 
 same-length-3 : tie.Need-same-length-3
 same-length-3 c = search needs
@@ -104,7 +104,7 @@ returns-2 c =
     let e = t .before in
     let b = begin e in
     carried-out (none e)
-    (refl, edited-plan (b .args .plan .now) (b .args .n) _ _ (touchesTable (b .args .table)) (t .table .ensures) (marks-one-table 1 (4 * sliceLimit) (b .args .table) (omega (arith, there e, b .pre .few))) (d .edit-by .ensures) (b .args .flops .now))
+    (refl, edited-plan (b .args .plan .now) (b .args .n) _ _ (touchesTable (b .args .table)) (t .table .ensures) (marks-one-table inputLimit (4 * sliceLimit) (b .args .table) (omega (arith, there e, b .pre .few))) (d .edit-by .ensures) (b .args .flops .now))
 
 pub edit-table-planned-spec : {M : Type 1} → statement M
 edit-table-planned-spec =

@@ -35,7 +35,7 @@ shared-slice-read-number-reached : tie.Need-shared-slice-read-number-reached Inv
 shared-slice-read-number-reached c = omega arith
 
 number-reached-requires : tie.Need-number-reached-requires Inv-loop μ-loop
-number-reached-requires c κs = search needs
+number-reached-requires c κs = let b = c .before .before .before .before .before .before in (b .pre .0, b .pre .1 .1 _ (omega arith))
 
 loop-less : tie.Need-loop-less Inv-loop μ-loop
 loop-less c = omega arith

@@ -36,7 +36,7 @@ slice-aggregate-wires c = sym (front (c .before .before .before .before .before 
 lay-inputs-requires : tie.Need-lay-inputs-requires
 lay-inputs-requires c κs =
     let b = c .before .before .before .before .before .before .before .before .before in
-    ((b .pre .0 .0 .sized .0, front b), (b .pre .1 .1, front-bits b))
+    ((b .pre .0 .0 .sized .0, front b), (b .pre .1 .2, front-bits b))
 
 lay-values-requires : tie.Need-lay-values-requires
 lay-values-requires c κs = search needs

@@ -51,7 +51,11 @@ slice-aggregate-gate-reached : tie.Need-slice-aggregate-gate-reached Inv-loop μ
 slice-aggregate-gate-reached c = search needs
 
 gate-reached-requires : tie.Need-gate-reached-requires Inv-loop μ-loop
-gate-reached-requires c κs = let l = c .before .before .before in (start l .pre .0 .sized, turn (start l .pre .0) (l .loop .i) (l .loop .inv .0) (search needs) .1)
+gate-reached-requires c κs =
+    let l = c .before .before .before in
+    let b = start l in
+    let t = turn (b .pre .0) (l .loop .i) (l .loop .inv .0) (search needs) in
+    ((b .pre .0 .sized, t .1, λ j h. omega (arith, b .pre .0 .range .sources _ j (t .1) h, b .pre .2)), (b .pre .3, l .loop .inv .2))
 
 gate-value-requires : tie.Need-gate-value-requires Inv-loop μ-loop
 gate-value-requires c κs =

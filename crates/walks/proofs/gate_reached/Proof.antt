@@ -1,8 +1,10 @@
 -- `walks::gate_reached` meets its contract, test by test of the head. Assumes nothing.
-use mathlib.Core.Path.{_∙_}
-use Prim.Native.Nat.{_*_}
+use mathlib.Core.Path.{_≡_, _∙_}
+use Prim.Native.Nat.{ℕ, _+_, _*_, _≤_}
 use native.Mathlib.Omega.{arith}
-use Rattle.netlist.specs.Table.{rowLength}
+use lib.ListN.{length}
+use Rattle.netlist.specs.Table.{rowLength, signalLimit, signalCount, inputRoom}
+use Rattle.walks.specs.Marked.{NumbersFit}
 use Rattle.walks.proofs.Reached.{or-both}
 use Rattle.walks.proofs.Rows.{reached-lut, reached-zero, reached-stored, reached-select, reached-xor, reached-same}
 use borrow.Author.Needs.{needs}
@@ -11,6 +13,12 @@ use Rattle.walks.proofs.gate_reached.Tie as tie
 
 abbrev start : tie.After-shared-slice-known5 → tie.Start
 start c = c .before .before .before .before .before
+
+-- the first k sources of the row
+row : (b : tie.Start) (k : ℕ) → k ≤ 6 → let a = b .args in
+    ((signalCount (a .n) ≤ signalLimit) × (length (a .changed .now) ≡ inputRoom) × (length (a .marks .now) ≡ signalLimit))
+    × ((rowLength * a .x + 1 + k ≤ length (a .table .now)) × NumbersFit (a .n) (a .table .now) (rowLength * a .x + 1) k)
+row b k h = ((b .pre .0 .0 .0, b .pre .1 .0, b .pre .1 .1), (omega (arith, b .pre .0), λ j l. b .pre .0 .2 j (omega arith)))
 
 mul-at : tie.Need-mul-at
 mul-at c = search needs
@@ -63,7 +71,7 @@ add-any-reached-2 : tie.Need-add-any-reached-2
 add-any-reached-2 c = search needs
 
 any-reached-requires-2 : tie.Need-any-reached-requires-2
-any-reached-requires-2 c κs = search needs
+any-reached-requires-2 c κs = row (c .before .before .before .before .before .before .before .before) 3 (omega arith)
 
 returns-3 : tie.Need-returns-3
 returns-3 c =
@@ -80,7 +88,7 @@ add-any-reached-3 : tie.Need-add-any-reached-3
 add-any-reached-3 c = search needs
 
 any-reached-requires-3 : tie.Need-any-reached-requires-3
-any-reached-requires-3 c κs = search needs
+any-reached-requires-3 c κs = row (c .before .before .before .before .before .before .before .before .before) 2 (omega arith)
 
 returns-4 : tie.Need-returns-4
 returns-4 c =
@@ -104,7 +112,10 @@ shared-slice-read-number-reached : tie.Need-shared-slice-read-number-reached
 shared-slice-read-number-reached c = search needs
 
 number-reached-requires : tie.Need-number-reached-requires
-number-reached-requires c κs = search needs
+number-reached-requires c κs =
+    let b = c .before .before .before .before .before .before .before .before .before .before .before in
+    let first : rowLength * b .args .x + 1 + 0 ≡ rowLength * b .args .x + 1 = omega arith in
+    ((b .pre .0 .0 .0, b .pre .1 .0, b .pre .1 .1), rw first at (b .pre .0 .2 0 (omega arith)))
 
 returns-5 : tie.Need-returns-5
 returns-5 c =
