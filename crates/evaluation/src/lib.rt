@@ -37,7 +37,8 @@ fn choose(select: u8, one: u8, zero: u8) -> u8
     if select == 0 { zero } else { one }
 }
 
-// What signal x's gate gives by the wires, in the gate table of n slices. It is no flip-flop's.
+// What signal x's gate gives by the wires, in the gate table of n slices. It is no flip-flop's. What a gate but a look-up may give is worked out before its
+// head is tested, so that only the test for a look-up is a branch.
 pub fn gate_value(table: &[u16], n: usize, x: usize, contents: &[u64], wires: &[u8]) -> u8
     requires { ⌜ IsTable n (now table) × (x < signalCount n) × (getD (now table) (rowLength * x) 0 < storedHead n) ⌝ }
     requires { ⌜ AreWires (now wires) (now table) (rowLength * x + 1) 6 × Bits (now wires) ⌝ }
@@ -49,17 +50,19 @@ pub fn gate_value(table: &[u16], n: usize, x: usize, contents: &[u64], wires: &[
         let k = number_on(table, at + 1, 6, wires);
         return lookup::contents_bit(contents, head, k);
     }
+    let first = wire(wires, table[at + 1]);
+    let second = wire(wires, table[at + 2]);
+    let third = wire(wires, table[at + 3]);
+    let chosen = choose(first, second, third);
+    let sum = (first + second) % 2;
     if head < 8 * n {
         return 0;
     }
-    let first = wire(wires, table[at + 1]);
-    let second = wire(wires, table[at + 2]);
     if head == 8 * n {
-        let third = wire(wires, table[at + 3]);
-        return choose(first, second, third);
+        return chosen;
     }
     if head == 8 * n + 1 {
-        return (first + second) % 2;
+        return sum;
     }
     first
 }

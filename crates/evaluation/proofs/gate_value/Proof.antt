@@ -49,14 +49,6 @@ returns c flops =
     c .contents-bit .ensures ∙ ap (bitAt (getD (a .contents .now) (getD (a .table .now) (rowLength * a .x) 0) 0)) (c .before .number-on .ensures .0)
     ∙ sym (rule-lut (a .contents .now) flops (a .wires .now) (a .table .now) (a .n) (a .x) (c .before .before .if1 .taken))
 
-mul-if2 : tie.Need-mul-if2
-mul-if2 c = search needs
-
-returns-2 : tie.Need-returns-2
-returns-2 c flops =
-    let a = start (c .before .before) .args in
-    sym (rule-zero (a .contents .now) flops (a .wires .now) (a .table .now) (a .n) (a .x) (c .before .if1 .left) (c .if2 .taken))
-
 add-wire : tie.Need-add-wire
 add-wire c = search needs
 
@@ -67,7 +59,7 @@ shared-slice-read-wire : tie.Need-shared-slice-read-wire
 shared-slice-read-wire c = search needs
 
 wire-requires : tie.Need-wire-requires
-wire-requires c κs = let s = start (c .before .before .before) in (is-wire s 1 (omega arith) (omega arith), s .pre .1 .1)
+wire-requires c κs = let s = start (c .before .before) in (is-wire s 1 (omega arith) (omega arith), s .pre .1 .1)
 
 add-wire-2 : tie.Need-add-wire-2
 add-wire-2 c = search needs
@@ -79,10 +71,7 @@ shared-slice-read-wire-2 : tie.Need-shared-slice-read-wire-2
 shared-slice-read-wire-2 c = search needs
 
 wire-requires-2 : tie.Need-wire-requires-2
-wire-requires-2 c κs = let s = start (c .before .before .before .before .before) in (is-wire s 2 (omega arith) (omega arith), s .pre .1 .1)
-
-mul-if3 : tie.Need-mul-if3
-mul-if3 c = search needs
+wire-requires-2 c κs = let s = start (c .before .before .before .before) in (is-wire s 2 (omega arith) (omega arith), s .pre .1 .1)
 
 add-wire-3 : tie.Need-add-wire-3
 add-wire-3 c = search needs
@@ -94,21 +83,34 @@ shared-slice-read-wire-3 : tie.Need-shared-slice-read-wire-3
 shared-slice-read-wire-3 c = search needs
 
 wire-requires-3 : tie.Need-wire-requires-3
-wire-requires-3 c κs =
-    let s = start (c .before .before .before .before .before .before .before .before) in
-    (is-wire s 3 (omega arith) (omega arith), s .pre .1 .1)
+wire-requires-3 c κs = let s = start (c .before .before .before .before .before .before) in (is-wire s 3 (omega arith) (omega arith), s .pre .1 .1)
 
 choose-requires : tie.Need-choose-requires
 choose-requires c κs = search needs
 
+add-sum : tie.Need-add-sum
+add-sum c = search needs
+
+mul-if2 : tie.Need-mul-if2
+mul-if2 c = search needs
+
+returns-2 : tie.Need-returns-2
+returns-2 c flops =
+    let e = c .before .before .before .before .before .before .before .before in
+    let a = start (e .before) .args in
+    sym (rule-zero (a .contents .now) flops (a .wires .now) (a .table .now) (a .n) (a .x) (e .if1 .left) (c .if2 .taken))
+
+mul-if3 : tie.Need-mul-if3
+mul-if3 c = search needs
+
 returns-3 : tie.Need-returns-3
 returns-3 c flops =
-    let t = c .before .before .before in
-    let e = t .before .before .before .before .before in
-    let a = start (e .before .before) .args in
-    c .choose .ensures
-    ∙ choose-by (t .before .before .before .wire .ensures .0) (t .before .wire2 .ensures .0) (c .before .wire3 .ensures .0)
-    ∙ sym (rule-select (a .contents .now) flops (a .wires .now) (a .table .now) (a .n) (a .x) (e .before .if1 .left) (e .if2 .left) (t .if3 .taken))
+    let h = c .before .before in
+    let e = h .before .before .before .before .before .before .before in
+    let a = start (e .before) .args in
+    h .choose .ensures
+    ∙ choose-by (h .before .before .before .before .before .wire .ensures .0) (h .before .before .before .wire2 .ensures .0) (h .before .wire3 .ensures .0)
+    ∙ sym (rule-select (a .contents .now) flops (a .wires .now) (a .table .now) (a .n) (a .x) (e .if1 .left) (c .before .if2 .left) (c .if3 .taken))
 
 mul-if4 : tie.Need-mul-if4
 mul-if4 c = search needs
@@ -116,25 +118,22 @@ mul-if4 c = search needs
 add-if4 : tie.Need-add-if4
 add-if4 c = search needs
 
-add-result : tie.Need-add-result
-add-result c = search needs
-
 returns-4 : tie.Need-returns-4
 returns-4 c flops =
-    let t = c .before .before in
-    let e = t .before .before .before .before in
-    let a = start (e .before .before) .args in
-    ap₂ (λ (u v : ℕ). (u + v) % 2) (t .before .before .wire .ensures .0) (t .wire2 .ensures .0)
-    ∙ sym (rule-xor (a .contents .now) flops (a .wires .now) (a .table .now) (a .n) (a .x) (e .before .if1 .left) (e .if2 .left) (c .before .if3 .left) (c .if4 .taken))
+    let h = c .before .before .before in
+    let e = h .before .before .before .before .before .before .before in
+    let a = start (e .before) .args in
+    ap₂ (λ (u v : ℕ). (u + v) % 2) (h .before .before .before .before .before .wire .ensures .0) (h .before .before .before .wire2 .ensures .0)
+    ∙ sym (rule-xor (a .contents .now) flops (a .wires .now) (a .table .now) (a .n) (a .x) (e .if1 .left) (c .before .before .if2 .left) (c .before .if3 .left) (c .if4 .taken))
 
 returns-5 : tie.Need-returns-5
 returns-5 c flops =
-    let t = c .before .before in
-    let e = t .before .before .before .before in
-    let s = start (e .before .before) in
+    let h = c .before .before .before in
+    let e = h .before .before .before .before .before .before .before in
+    let s = start (e .before) in
     let a = s .args in
-    t .before .before .wire .ensures .0
-    ∙ sym (rule-same (a .contents .now) flops (a .wires .now) (a .table .now) (a .n) (a .x) (e .before .if1 .left) (e .if2 .left) (c .before .if3 .left) (c .if4 .left) (s .pre .0 .2))
+    h .before .before .before .before .before .wire .ensures .0
+    ∙ sym (rule-same (a .contents .now) flops (a .wires .now) (a .table .now) (a .n) (a .x) (e .if1 .left) (c .before .before .if2 .left) (c .before .if3 .left) (c .if4 .left) (s .pre .0 .2))
 
 pub gate-value-spec : {M : Type 1} → statement M
 gate-value-spec =
@@ -149,8 +148,6 @@ gate-value-spec =
     number-on-requires
     contents-bit-requires
     returns
-    mul-if2
-    returns-2
     add-wire
     mul-wire
     shared-slice-read-wire
@@ -159,15 +156,17 @@ gate-value-spec =
     mul-wire-2
     shared-slice-read-wire-2
     wire-requires-2
-    mul-if3
     add-wire-3
     mul-wire-3
     shared-slice-read-wire-3
     wire-requires-3
     choose-requires
+    add-sum
+    mul-if2
+    returns-2
+    mul-if3
     returns-3
     mul-if4
     add-if4
-    add-result
     returns-4
     returns-5)
