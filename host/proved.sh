@@ -1,6 +1,6 @@
 # shellcheck shell=bash disable=SC2034,SC2154 # some of its variables are set or used by who sources it
-# What the scripts share: ./judge, ./quagmuffin, host/cli/cargo and the gate. It has no command of its own; who sources it sets `self`, the name that
-# its lines start with, and `root`, the repository.
+# What the scripts share: ./judge, ./quagmuffin, host/lookup, host/clocks, host/cli/cargo and the gate. It has no command of its own; who sources it
+# sets `self`, the name that its lines start with, and `root`, the repository.
 #
 # A program is kept in target/SELF under the fingerprint of what it is built from. The script has `fingerprint`, which tells that number, and
 # `make_program`, which builds the program and hands it to `store`.
@@ -72,6 +72,17 @@ progress() { # CRATE
 # Has rt prove a crate and all below it, and make what is built from them.
 prove() { # check|staticlib CRATE
     (cd "$root" && rt "$1" "$2" 2>&1 < /dev/null) | tee "$build_log" | progress "$2" || fail "rt $1 $2 failed, so there is no program; $build_log says why"
+}
+
+# Proves archives in a repository, and leaves them in a folder as shared libraries.
+share() { # REPOSITORY FOLDER CRATES...
+    local crate root=$1 folder=$2
+    mkdir -p "$folder" || fail "$folder: can't be written"
+    for crate in "${@:3}"; do
+        prove staticlib "$crate"
+        gcc -shared -Wl,--build-id=none,--whole-archive "$root/target/staticlib/lib$crate.a" -Wl,--no-whole-archive -o "$folder/$crate.so" > "$build_log" 2>&1 ||
+            fail "$crate can't be linked; $build_log says why"
+    done
 }
 
 # Makes sure that the program of a fingerprint is kept, one run at a time, since all of them prove and build in target/. What is run meanwhile

@@ -33,14 +33,19 @@ pub struct Times {
 
 impl Times {
     /// Times calls in turn: a run of each makes a round.
-    pub fn of(mut calls: Vec<Box<dyn FnMut() + '_>>) -> Times {
+    pub fn of(calls: Vec<Box<dyn FnMut() + '_>>) -> Times {
+        Times::of_rounds(calls, ROUNDS)
+    }
+
+    /// The same for so many rounds, where a call is longer than a run.
+    pub fn of_rounds(mut calls: Vec<Box<dyn FnMut() + '_>>, rounds: usize) -> Times {
         let counts: Vec<u32> = calls.iter_mut().map(|call| calls_in_run(call)).collect();
         let round = |_| {
             let turns = calls.iter_mut().zip(&counts);
             turns.map(|(call, &count)| run(call, count)).collect()
         };
         Times {
-            rounds: (0..ROUNDS).map(round).collect(),
+            rounds: (0..rounds).map(round).collect(),
         }
     }
 

@@ -1,4 +1,4 @@
-//! Runs exported designs in iverilog over yosys's models of the primitives, for tests.
+//! Runs exported designs in iverilog over yosys's models of the primitives, for tests; where these models are.
 
 use std::io::Write;
 use std::path::{Path, PathBuf};
@@ -22,11 +22,15 @@ pub fn say_skipped(missing: &str) {
     }
 }
 
+/// Where the models should be: `CELLS`, or where Debian has them.
+pub fn named_cells() -> PathBuf {
+    std::env::var_os("CELLS").map_or(PathBuf::from(CELLS), PathBuf::from)
+}
+
 /// The models, where they and iverilog are there; else it says so. `CELLS` names other models, and then they have to be there.
 pub fn cells() -> Option<PathBuf> {
-    let named = std::env::var_os("CELLS");
-    let required = named.is_some();
-    let cells = named.map_or(PathBuf::from(CELLS), PathBuf::from);
+    let required = std::env::var_os("CELLS").is_some();
+    let cells = named_cells();
     let found = cells.exists() && Command::new("iverilog").arg("-V").output().is_ok();
     if found {
         return Some(cells);

@@ -9,7 +9,9 @@ use testkit::command::{assert_fails, assert_writes};
 use testkit::replica::Replica;
 use testkit::run::repository;
 
-const COMMANDS: [&str; 6] = ["bench", "lookup", "model", "replay", "soak", "verilog"];
+const COMMANDS: [&str; 7] = [
+    "bench", "clocks", "lookup", "model", "replay", "soak", "verilog",
+];
 
 fn run(script: &Path, words: &[&str]) -> Output {
     let output = Command::new(script).args(words).output();
@@ -56,7 +58,7 @@ fn scripts_run_their_command() {
 /// Where nothing is built they help, and say what to run.
 #[test]
 fn scripts_without_the_library() {
-    for name in ["bench", "lookup", "replay", "soak"] {
+    for name in ["bench", "clocks", "lookup", "replay", "soak"] {
         let help = format!("root/host/help/{name}");
         let copy = replica("unbuilt", &[(&help, "helps\n")]);
         copy.copy(&["host/run"]);
