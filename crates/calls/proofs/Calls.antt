@@ -32,10 +32,6 @@ pub turned-by : {own : ℕ} {Kept Did : Type 0} (k : ℕ) → k ≡ own → (k �
 turned-by zero e ne kept = absurd (ne refl)
 turned-by (suc k) e ne kept = turned-down (sym e) kept
 
--- a refusal of another call, whose refusals are the same and after which all this one writes is as it was
-pub turned-as : {own : ℕ} {Kept Kept′ Did Did′ : Type 0} {k p : ℕ} → (Kept′ → Kept) → Planned own Kept′ Did′ (Refused k p) → Planned own Kept Did (Refused k p)
-turned-as f (turned-down e kept) = turned-down e (f kept)
-
 -- the judge's verdict on a file that is loaded or refused
 pub loaded-judged : (file plan : List ℕ) (v : Verdict) → Loaded file plan v → Judged file v
 loaded-judged file plan (VerdictRefused k p) l = l

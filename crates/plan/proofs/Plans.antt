@@ -70,9 +70,6 @@ module _ (file : List ℕ) {n m : ℕ} {plan : List ℕ} (r : Ready file n m pla
   pub ready-sound : SoundFile file n m
   ready-sound = sound-file file (accepted-sound file (r .verdict))
 
-  pub plan-fits : planLength n ≤ planLimit
-  plan-fits = omega (arith, ready-sound .slices-fit)
-
   -- what a walk along the order asks for
   pub ready-walk : Walkable n m (planTable plan n) (planOrder plan n)
   ready-walk =

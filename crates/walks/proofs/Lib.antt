@@ -1,4 +1,3 @@
-pub mod Place
 pub mod Laying
 pub mod Turns
 pub mod Reached
