@@ -46,9 +46,9 @@ module _ (file : List ℕ) {n m : ℕ} {plan : List ℕ} (r : Ready file n m pla
       let body = sliceBody file (t / 4) in
       let place : edgeLength * (t / 4) + (kindPlace + t % 4) ≡ edgeLength * (t / 4) + kindPlace + t % 4 = omega arith in
       let at : kindIn edges t ≡ getD (edgeAt edges (t / 4)) (kindPlace + t % 4) 0 =
-          ap (λ (i : ℕ). getD edges i 0) (sym place)
-          ∙ sym (getD-drop (edgeLength * (t / 4)) edges (kindPlace + t % 4) 0)
-          ∙ sym (getD-take edgeLength (drop (edgeLength * (t / 4)) edges) (kindPlace + t % 4) 0 (omega arith)) in
+      ap (λ (i : ℕ). getD edges i 0) (sym place)
+      ∙ sym (getD-drop (edgeLength * (t / 4)) edges (kindPlace + t % 4) 0)
+      ∙ sym (getD-take edgeLength (drop (edgeLength * (t / 4)) edges) (kindPlace + t % 4) 0 (omega arith)) in
       rw (at, r .represents .edges (t / 4) l, kind-at n m (t / 4) body (t % 4) letter, kind-shift (mode body (t % 4)) (shiftData body (t % 4)) (mode-listed n m (t / 4) body (body-good file (ready-sound file r) (t / 4) l) (t % 4) letter))
 
   words-same : (contents : List ℕ) → length contents ≡ 4 * n → badWordsBy edges contents ≡ badWords file contents
@@ -64,18 +64,18 @@ module _ (file : List ℕ) {n m : ℕ} {plan : List ℕ} (r : Ready file n m pla
       by false e = word-same table word (omega (arith, leb-false (4 * n) table e))
 
   module _ (st : State) (inputs values : List ℕ) where
-    by-lengths : (f : Bool → ℕ) → (badLengths n m st inputs values ≡ false → f (badWordsBy edges (st .contents)) ≡ f (badWords file (st .contents)))
-    by-lengths f e = ap f (words-same (st .contents) (lengths n m st inputs values e .contents))
+    by-lengths : (f : Bool → ℕ) (i : ℕ) → (badLengths n i st inputs values ≡ false → f (badWordsBy edges (st .contents)) ≡ f (badWords file (st .contents)))
+    by-lengths f i e = ap f (words-same (st .contents) (lengths n i st inputs values e .contents))
 
-    -- settling and clocking
-    pub settle-same : settleRefusalBy (badWordsBy edges (st .contents)) st inputs values n m ≡ settleRefusal file st inputs values n m
+    -- settling and clocking, with any number of input bytes
+    pub settle-same : (i : ℕ) → settleRefusalBy (badWordsBy edges (st .contents)) st inputs values n i ≡ settleRefusal file st inputs values n i
     unfolding settleRefusal
-    settle-same = by (badLengths n m st inputs values) refl
+    settle-same i = by (badLengths n i st inputs values) refl
       where
-        by : (t : Bool) → badLengths n m st inputs values ≡ t
-            → settleRefusalBy (badWordsBy edges (st .contents)) st inputs values n m ≡ settleRefusalBy (badWords file (st .contents)) st inputs values n m
+        by : (t : Bool) → badLengths n i st inputs values ≡ t
+            → settleRefusalBy (badWordsBy edges (st .contents)) st inputs values n i ≡ settleRefusalBy (badWords file (st .contents)) st inputs values n i
         by true e = rw e
-        by false e = by-lengths (λ b. settleRefusalBy b st inputs values n m) e
+        by false e = by-lengths (λ b. settleRefusalBy b st inputs values n i) i e
 
     -- an edit
     pub edit-same : (bad : Bool) → editRefusalBy bad (badWordsBy edges (st .contents)) st inputs values n m ≡ editRefusal bad file st inputs values n m
@@ -85,4 +85,4 @@ module _ (file : List ℕ) {n m : ℕ} {plan : List ℕ} (r : Ready file n m pla
         by : (t : Bool) → badLengths n m st inputs values ≡ t
             → editRefusalBy bad (badWordsBy edges (st .contents)) st inputs values n m ≡ editRefusalBy bad (badWords file (st .contents)) st inputs values n m
         by true e = rw e
-        by false e = by-lengths (λ b. editRefusalBy bad b st inputs values n m) e
+        by false e = by-lengths (λ b. editRefusalBy bad b st inputs values n m) m e

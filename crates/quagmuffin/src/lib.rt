@@ -31,7 +31,7 @@ fn pack_number(number: usize, above: usize) -> u64
 }
 
 // A call's answer.
-fn pack_answer(answer: Answer) -> u64
+pub fn pack_answer(answer: Answer) -> u64
     requires { ⌜ SmallAnswer answer ⌝ }
     ensures { λ r. ⌜ r ≡ packAnswer answer ⌝ }
 {
