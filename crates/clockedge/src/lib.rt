@@ -105,13 +105,7 @@ fn move_words(edge: &[u16], s: usize, wires: &[u8], contents: &mut [u64])
 }
 
 // Moves slice s: its contents words and its flip-flop byte.
-fn move_slice(
-    edge: &[u16],
-    s: usize,
-    wires: &[u8],
-    contents: &mut [u64],
-    flops: &mut [u8],
-)
+fn move_slice(edge: &[u16], s: usize, wires: &[u8], contents: &mut [u64], flops: &mut [u8])
     requires { ⌜ EdgeFits (now wires) (now edge) × (4 * s + 4 ≤ length (now contents)) × (s < length (now flops)) ⌝ }
     ensures { λ _. ⌜ Moved (was wires) (was edge) s 4 (was contents) (left contents) ⌝ }
     ensures { λ _. ⌜ left flops ≡ set (was flops) s (flopsBy (was wires) (was edge) (getD (was flops) s 0)) ⌝ }
@@ -122,13 +116,7 @@ fn move_slice(
 }
 
 // Moves the state of n slices over the clock edge. All move together, from the table on the wires.
-pub fn move_all(
-    edges: &[u16],
-    n: usize,
-    wires: &[u8],
-    contents: &mut [u64],
-    flops: &mut [u8],
-)
+pub fn move_all(edges: &[u16], n: usize, wires: &[u8], contents: &mut [u64], flops: &mut [u8])
     requires { ⌜ (n ≤ sliceLimit) × EdgesFit n (now wires) (now edges) ⌝ }
     requires { ⌜ (length (now contents) ≡ 4 * n) × (length (now flops) ≡ n) ⌝ }
     ensures { λ _. ⌜ left contents ≡ wordsBy (was wires) (was edges) n (was contents) ⌝ }

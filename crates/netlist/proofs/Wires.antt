@@ -57,14 +57,14 @@ module _ {n m : ℕ} {wires : List ℕ} (w : IsWires n m wires) where
       (λ a h.
       let e : signalWire + (c - signalWire) ≡ c = omega arith in
       let v : getD (valuesOn n wires) (c - signalWire) 0 ≡ getD wires c 0 =
-          getD-take (signalCount n) (drop signalWire wires) (c - signalWire) 0 (omega arith)
-          ∙ getD-drop signalWire wires (c - signalWire) 0
-          ∙ ap (λ (i : ℕ). getD wires i 0) e in
+      getD-take (signalCount n) (drop signalWire wires) (c - signalWire) 0 (omega arith)
+      ∙ getD-drop signalWire wires (c - signalWire) 0
+      ∙ ap (λ (i : ℕ). getD wires i 0) e in
       rw (signal-at n c a h, v) (omega (arith, w .bits c)))
       (λ h.
       let e : inputWire n + (c - inputWire n) ≡ c = omega arith in
       let v : getD (inputsOn n wires) (c - inputWire n) 0 ≡ getD wires c 0 =
-          getD-drop (inputWire n) wires (c - inputWire n) 0 ∙ ap (λ (i : ℕ). getD wires i 0) e in
+      getD-drop (inputWire n) wires (c - inputWire n) 0 ∙ ap (λ (i : ℕ). getD wires i 0) e in
       rw (input-at n c h, v) (omega (arith, w .bits c)))
 
   -- the bit on a source of the netlist
@@ -81,9 +81,9 @@ gate-by a f n head v w p e =
   where
     by :
         (b c d g h : Bool) → let gate =
-            cond b (Lut head (p 1) (p 2) (p 3) (p 4) (p 5) (p 6))
-            (cond c (ZeroOf (head - 4 * n))
-            (cond d (Select (p 1) (p 2) (p 3)) (cond g (Xor (p 1) (p 2)) (cond h (Same (p 1)) (Stored (head - storedHead n))))))
+        cond b (Lut head (p 1) (p 2) (p 3) (p 4) (p 5) (p 6))
+        (cond c (ZeroOf (head - 4 * n))
+        (cond d (Select (p 1) (p 2) (p 3)) (cond g (Xor (p 1) (p 2)) (cond h (Same (p 1)) (Stored (head - storedHead n))))))
         in applyGate a f v gate ≡ applyGate a f w gate
     by true c d g h = rw (e 1, e 2, e 3, e 4, e 5, e 6)
     by false true d g h = refl

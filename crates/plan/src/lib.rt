@@ -79,7 +79,11 @@ fn complete(file: &[u8], n: usize, m: usize, turns: &[u16], plan: &mut [u16])
     ensures { λ _. ⌜ Ready (was file) n m (left plan) ⌝ }
 {
     put_edges(file, n, m, plan);
-    copy_to(plan, (SLICE_NUMBERS + EDGE_LENGTH) * n, &turns[..SLICE_SIGNALS * n]);
+    copy_to(
+        plan,
+        (SLICE_NUMBERS + EDGE_LENGTH) * n,
+        &turns[..SLICE_SIGNALS * n],
+    );
 }
 
 // Judges any bytes, and leaves the plan of an accepted file at the front of the buffer.

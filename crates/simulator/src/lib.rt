@@ -57,7 +57,16 @@ pub fn settle(
     };
     let mut wires = [0u8; WIRE_LIMIT];
     let count = SIGNAL_WIRE + SLICE_SIGNALS * n + m;
-    settle_planned(&plan, n, m, contents, flops, inputs, values, &mut wires[..count])
+    settle_planned(
+        &plan,
+        n,
+        m,
+        contents,
+        flops,
+        inputs,
+        values,
+        &mut wires[..count],
+    )
 }
 
 // One clock by a plan of n slices, on lent wires, for buffers that are not refused.
@@ -122,5 +131,14 @@ pub fn clock(
     };
     let mut wires = [0u8; WIRE_LIMIT];
     let count = SIGNAL_WIRE + SLICE_SIGNALS * n + m;
-    clock_planned(&plan, n, m, contents, flops, inputs, values, &mut wires[..count])
+    clock_planned(
+        &plan,
+        n,
+        m,
+        contents,
+        flops,
+        inputs,
+        values,
+        &mut wires[..count],
+    )
 }

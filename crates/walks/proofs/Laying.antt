@@ -70,8 +70,8 @@ laid-inputs n inputs old new size bits low p = (
     bits = put-bits p (λ i h. bits i) (bits-set (set old 0 0) 1 1 (omega arith) (bits-set old 0 0 (omega arith) low));
   },
   ext-getD 0 (inputsOn n new) inputs
-  (length-drop (inputWire n) new ∙ omega (arith, p .long, length-set (set old 0 0) 1 1, length-set old 0 0))
-  (λ i h. getD-drop (inputWire n) new i 0 ∙ p .put i (omega (arith, length-drop (inputWire n) new, p .long, length-set (set old 0 0) 1 1, length-set old 0 0))),
+      (length-drop (inputWire n) new ∙ omega (arith, p .long, length-set (set old 0 0) 1 1, length-set old 0 0))
+      (λ i h. getD-drop (inputWire n) new i 0 ∙ p .put i (omega (arith, length-drop (inputWire n) new, p .long, length-set (set old 0 0) 1 1, length-set old 0 0))),
 )
 
 -- a value table put on the signals' wires
@@ -81,7 +81,7 @@ pub laid-values :
 laid-values {n} {m} {values} {old} {new} w size bits p = (
   still,
   ext-getD 0 (valuesOn n new) values (values-length (still .wires) ∙ sym size)
-  (λ x h. let l : x < signalCount n = omega (arith, values-length (still .wires)) in value-on n new x l ∙ p .put x (omega arith)),
+      (λ x h. let l : x < signalCount n = omega (arith, values-length (still .wires)) in value-on n new x l ∙ p .put x (omega arith)),
 )
   where
     still : StillWires n m old new

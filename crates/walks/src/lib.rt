@@ -78,7 +78,11 @@ fn spread_flops(flops: &[u8], n: usize, m: usize, wires: &mut [u8])
 {
     let mut s = 0;
     while s < n {
-        spread_byte(wires, SIGNAL_WIRE + SLICE_SIGNALS * s + FIRST_FLOP, flops[s]);
+        spread_byte(
+            wires,
+            SIGNAL_WIRE + SLICE_SIGNALS * s + FIRST_FLOP,
+            flops[s],
+        );
         s += 1;
     }
 }

@@ -37,7 +37,7 @@ returns c =
     let w = b .args .wires .now in
     let e : inputWire (b .args .n) - signalWire ≡ signalCount (b .args .n) = omega arith in
     let size : length (take (signalCount (b .args .n)) (drop signalWire w)) ≡ signalCount (b .args .n) =
-        length-take-le _ (drop signalWire w) (omega (arith, length-drop signalWire w, b .pre .1)) in
+    length-take-le _ (drop signalWire w) (omega (arith, length-drop signalWire w, b .pre .1)) in
     put-whole (omega (arith, size, b .pre .2)) (rw e at (c .before .before .copy-to .ensures))
 
 pub read-values-spec : {M : Type 1} → statement M
