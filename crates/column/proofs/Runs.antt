@@ -91,15 +91,6 @@ module _ (file : List ℕ) where
     unfolding clock-last
     last-table = placed-there (r .tables) K values
 
-    -- and the earlier ones are the run's
-    pub earlier-state : (k : ℕ) → k ≤ K → clock-last .states k ≡ r .states k
-    unfolding clock-last
-    earlier-state = state-kept
-
-    pub earlier-table : (k : ℕ) → k < K → clock-last .tables k ≡ r .tables k
-    unfolding clock-last
-    earlier-table k l = placed-other (r .tables) K values k (λ e. omega arith)
-
   -- two runs of as many clocks agree
   pub run-unique : SettlesOnce file → {start : State} {inputs : ℕ → List ℕ} {K : ℕ} (r r′ : Run file start inputs K) (k : ℕ) → k ≤ K → r .states k ≡ r′ .states k
   run-unique once r r′ zero l = r .begins ∙ sym (r′ .begins)
