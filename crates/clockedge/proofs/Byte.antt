@@ -3,7 +3,6 @@ use mathlib.Core.Path.{_≡_, refl, _∙_, sym, ap}
 use mathlib.Core.List.{List}
 use Prim.Native.Nat.{ℕ, zero, suc, _+_, _%_}
 use borrow.Author.Tests.{eq-eqb, ne-eqb}
-use lib.ListN.{getD}
 use Rattle.netlist.specs.Rule.{bitAt, number}
 use Rattle.slicefile.specs.Lists.{tabulate}
 use Rattle.slicefile.proofs.Tabulate.{tabulate-from, tabulate-same}

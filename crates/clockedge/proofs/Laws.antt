@@ -2,7 +2,7 @@
 use mathlib.Core.Path.{_≡_, refl, _∙_, ap}
 use mathlib.Core.Bool.{Bool, true, false, cond, _&&_}
 use mathlib.Core.List.{List, [], _∷_}
-use Prim.Native.Nat.{ℕ, zero, suc, _+_, _-_, _≤_, _<_}
+use Prim.Native.Nat.{ℕ, zero, suc, _+_, _-_, _<_}
 use native.Mathlib.Omega.{arith}
 use borrow.Author.Tests.{eq-eqb, lt-ltb}
 use lib.Dec.{ltb, eqb, lit<, eqb·suc-zero, eqb·suc-suc}
@@ -12,7 +12,6 @@ use Rattle.netlist.specs.Table.{wireCount, codeOf, SourceFits}
 use Rattle.netlist.specs.Wires.{IsWires, onWire}
 use Rattle.netlist.proofs.Table.{code-wire}
 use Rattle.netlist.specs.declared.Source.{Source}
-use Rattle.netlist.specs.declared.Source.the-variants.{Constant}
 use Rattle.slicefile.proofs.Tabulate.{tabulate-same}
 use Rattle.slicefile.specs.Format.{mode, shiftData, mainInput, secondInput, setResetUsed, bypassPin, clockEnablePin, setResetPin, writeEnablePin, lutPin}
 use Rattle.rules.specs.Rules.{bodyRefusal}

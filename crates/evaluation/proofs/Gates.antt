@@ -6,7 +6,7 @@ use native.Mathlib.Omega.{arith}
 use borrow.Author.Tests.{lt-ltb, le-ltb, eq-eqb, ne-eqb}
 use lib.ListN.{getD}
 use Rattle.netlist.specs.Rule.{bitAt, choose, applyGate}
-use Rattle.netlist.specs.Table.{rowLength, selectHead, storedHead, sourceOf, gateWith, gateOf}
+use Rattle.netlist.specs.Table.{rowLength, selectHead, storedHead, gateWith, gateOf}
 use Rattle.netlist.specs.Wires.{onWire}
 use Rattle.netlist.proofs.Wires.{code-back}
 use Rattle.evaluation.specs.Numbers.{numberOn}

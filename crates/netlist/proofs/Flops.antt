@@ -1,8 +1,8 @@
 -- The flip-flops' signals, which read nothing: where they stand first in an order, a walk may take them all at once. Assumes nothing.
-use mathlib.Core.Path.{_≡_, refl, sym, _∙_, ap, subst, subst⁻¹}
+use mathlib.Core.Path.{_≡_, refl, sym, _∙_, ap, subst}
 use mathlib.Core.Bool.{Bool, true, false, true≢false}
 use mathlib.Core.List.{List, List·Memᴰ·not-nil}
-use mathlib.Core.Logic.{inl, inr, ⊎-elim}
+use mathlib.Core.Logic.{⊎-elim}
 use Prim.Native.Nat.{ℕ, _+_, _*_, _-_, _/_, _%_, _≤_, _<_}
 use native.Mathlib.Decide.{decLt}
 use native.Mathlib.Omega.{arith}
@@ -14,7 +14,7 @@ use Rattle.netlist.specs.Rule.{Env, bitAt, applyGate, ruleOf, sourcesOf,
 use Rattle.netlist.specs.Graph.{Reads, Ordered, Affected}
 use Rattle.netlist.specs.Settle.{readsIn, isMarked}
 use Rattle.netlist.specs.Invariant.{SettledTo, EditedTo}
-use Rattle.netlist.specs.Table.{sliceSignals, signalCount, rowLength, firstFlop, selectHead, storedHead, gateWith, gateOf, flopSignal, FlopRows, FlopsFirst}
+use Rattle.netlist.specs.Table.{sliceSignals, signalCount, firstFlop, selectHead, storedHead, gateWith, gateOf, flopSignal, FlopRows, FlopsFirst}
 use Rattle.netlist.proofs.Editing.{affected-cases}
 use Rattle.netlist.proofs.Order.{distinct}
 

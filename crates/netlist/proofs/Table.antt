@@ -16,7 +16,7 @@ use Rattle.netlist.specs.declared.Source.{Source}
 use Rattle.netlist.specs.declared.Source.the-variants.{Constant, Input, Signal}
 use Rattle.netlist.specs.declared.Gate.{Gate}
 use Rattle.netlist.specs.declared.Gate.the-variants.{Lut, ZeroOf, Select, Xor, Same, Stored}
-use Rattle.netlist.specs.Table.{rowLength, signalWire, inputWire, wireCount, inputRoom, codeOf, sourceOf, selectHead, storedHead, gateNumbers, gateWith, gateOf, SourceFits, GateFits}
+use Rattle.netlist.specs.Table.{rowLength, signalWire, inputWire, wireCount, codeOf, sourceOf, selectHead, storedHead, gateNumbers, gateWith, gateOf, SourceFits, GateFits}
 
 -- a run of stores leaves what stands before it and after it
 sets-other : (vs l : List ℕ) (i j : ℕ) → (j < i) ⊎ (i + length vs ≤ j) → getD (sets l i vs) j 0 ≡ getD l j 0

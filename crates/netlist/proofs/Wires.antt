@@ -3,7 +3,7 @@
 use mathlib.Core.Path.{_≡_, refl, sym, _∙_, ap, ap₂}
 use mathlib.Core.Bool.{Bool, true, false, cond}
 use mathlib.Core.List.{List, [], _∷_, _++_}
-use Prim.Native.Nat.{ℕ, zero, suc, _+_, _*_, _-_, _%_, _≤_, _<_}
+use Prim.Native.Nat.{ℕ, zero, suc, _+_, _*_, _-_, _≤_, _<_}
 use native.Mathlib.Decide.{ℕ-discrete, decLt}
 use native.Mathlib.Omega.{arith}
 use borrow.Author.Tests.{lt-ltb, le-ltb}
@@ -11,9 +11,9 @@ use lib.Dec.{eqb, ltb}
 use lib.ListN.{length, getD, set, take, drop, length-set, length-append, take-append-drop, List·getD-append}
 use lib.Seq.{getD-take, getD-drop, getD-set-same, getD-set-other, take-set-lt, drop-set-add, drop-set-lt, drop-drop, take-at, drop-at, getD-append-add}
 use Rattle.netlist.specs.declared.Source.{Source}
-use Rattle.netlist.specs.declared.Source.the-variants.{Constant, Input, Signal}
+use Rattle.netlist.specs.declared.Source.the-variants.{Input, Signal}
 use Rattle.netlist.specs.declared.Gate.the-variants.{Lut, ZeroOf, Select, Xor, Same, Stored}
-use Rattle.netlist.specs.Rule.{env, bit, valueOf, applyGate, ruleOf}
+use Rattle.netlist.specs.Rule.{env, valueOf, applyGate, ruleOf}
 use Rattle.netlist.specs.Table.{signalCount, signalWire, inputWire, codeOf, sourceOf, selectHead, storedHead, rowLength, gateWith, gateOf, SourceFits}
 use Rattle.netlist.specs.Wires.{IsWires, wiresOf, valuesOn, inputsOn, onWire}
 use Rattle.netlist.proofs.Table.{source-back}

@@ -3,7 +3,7 @@ use mathlib.Core.Path.{_≡_}
 use mathlib.Core.List.{List}
 use Prim.Native.Nat.{ℕ, _+_, _*_, _/_, _%_, _<_}
 use native.Mathlib.Omega.{arith}
-use lib.ListN.{length, getD}
+use lib.ListN.{getD}
 use Rattle.lent.specs.Put.{Put, PutAll}
 use Rattle.lent.proofs.Putting.{put-as, put-more}
 use Rattle.clocknumbers.specs.Numbers.{edgeLength, edgeNumbers}

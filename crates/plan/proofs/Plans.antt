@@ -1,6 +1,6 @@
 -- What a plan gives to those who run on it: a walk's table and order, the edges of all slices, and that the edge over its numbers is the file's.
 -- Assumes nothing.
-use mathlib.Core.Path.{_≡_, _∙_, refl, sym, ap, ap₂}
+use mathlib.Core.Path.{_≡_, _∙_, refl, sym, ap₂}
 use mathlib.Core.List.{List, _++_}
 use mathlib.Core.Logic.{inl}
 use Prim.Native.Nat.{ℕ, _+_, _*_, _/_, _%_, _≤_, _<_}
@@ -8,7 +8,7 @@ use native.Mathlib.Omega.{arith}
 use lib.ListN.{length, getD, take, drop, length-drop}
 use lib.Seq.{length-take-le, take-append-le, getD-take, getD-drop, ext-getD}
 use Rattle.netlist.specs.Rule.{valueOf}
-use Rattle.netlist.specs.Table.{signalLimit, signalCount, tableLength, IsTable, netOf, SourceFits}
+use Rattle.netlist.specs.Table.{signalLimit, signalCount, tableLength, netOf, SourceFits}
 use Rattle.netlist.specs.Wires.{IsWires, wiresOf, valuesOn, inputsOn, onWire}
 use Rattle.netlist.specs.declared.Source.{Source}
 use Rattle.netlist.proofs.Agree.{agree-sym, ordered-agree}
@@ -29,7 +29,7 @@ use Rattle.column.specs.declared.Verdict.the-variants.{Refused}
 use Rattle.column.specs.File.{sliceBody, gateAt}
 use Rattle.column.proofs.SoundLaws.{SoundFile, sound-file, body-good}
 use Rattle.column.proofs.Verdicts.{accepted-sound}
-use Rattle.plan.specs.Plan.{edgesPlace, orderPlace, planLength, planLimit, planTable, planEdges, planOrder, edgesOf, Represents, Ready, Loaded, Runnable, clockedBy}
+use Rattle.plan.specs.Plan.{edgesPlace, orderPlace, planLimit, planTable, planEdges, planOrder, edgesOf, Ready, Loaded, Runnable, clockedBy}
 use Rattle.plan.proofs.Numbers.{slice-at}
 
 -- a netlist at the front of a longer buffer

@@ -8,7 +8,7 @@ ghost use Rattle.clocknumbers.specs.Numbers.{edgeLength};
 ghost use Rattle.netlist.specs.Table.{signalLimit};
 ghost use Rattle.column.specs.Check.{IsSound};
 ghost use Rattle.column.specs.Compile.{Ready as Netlisted};
-ghost use Rattle.plan.specs.Plan.{edgesPlace, orderPlace, planLength, planLimit, planTable, planEdges, planOrder, edgesOf, Ready, Loaded};
+ghost use Rattle.plan.specs.Plan.{edgesPlace, planLength, planLimit, planTable, planEdges, planOrder, edgesOf, Ready, Loaded};
 use clocknumbers::EDGE_LENGTH;
 use column::TABLE_LIMIT;
 use column::Verdict;

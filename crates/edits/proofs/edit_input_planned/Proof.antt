@@ -12,7 +12,6 @@ use Rattle.slicefile.proofs.Tests.{or-left, or-right}
 use Rattle.walks.proofs.Laying.{bits-set}
 use Rattle.walks.proofs.Reached.{marks-one-input}
 use Rattle.column.specs.Clock.{stateOf}
-use Rattle.plan.specs.Plan.{planEdges}
 use Rattle.plan.proofs.Plans.{edges-long, parts-walk}
 use Rattle.buffers.specs.Buffers.{badInput}
 use Rattle.buffers.proofs.Passed.{edit-passed}

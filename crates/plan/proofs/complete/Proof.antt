@@ -3,7 +3,6 @@ use borrow.Author.Needs.{needs}
 use mathlib.Core.Path.{_≡_}
 use Prim.Native.Nat.{_*_}
 use native.Mathlib.Omega.{arith}
-use Rattle.column.proofs.SoundLaws.{sound-file}
 use Rattle.column.proofs.Verdicts.{accepted-sound}
 use Rattle.plan.specs.Plan.{orderPlace}
 use Rattle.plan.proofs.Plans.{completed}

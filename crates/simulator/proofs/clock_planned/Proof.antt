@@ -3,7 +3,6 @@ use mathlib.Core.Path.{_≡_, _∙_, refl, sym, ap}
 use borrow.Author.Needs.{needs}
 use Rattle.netlist.specs.Table.{wireCount}
 use Rattle.column.specs.Clock.{stateOf}
-use Rattle.plan.specs.Plan.{Runnable}
 use Rattle.plan.proofs.Plans.{edges-long}
 use Rattle.buffers.proofs.Passed.{settle-passed}
 use Rattle.calls.specs.Calls.{carried-out}

@@ -1,9 +1,8 @@
 -- `walks::edit_by` meets its contract: the front of a local array has the wires. Assumes nothing.
 use mathlib.Core.Path.{_≡_, _∙_, sym}
-use Prim.Native.Nat.{ℕ, _≤_}
 use native.Mathlib.Omega.{arith}
 use borrow.Author.Needs.{needs}
-use lib.ListN.{length, getD, take}
+use lib.ListN.{length, take}
 use Rattle.netlist.specs.Table.{wireCount, wireLimit}
 use Rattle.netlist.proofs.Zeros.{zeros, zeros-length, zeros-all}
 use Rattle.evaluation.specs.Numbers.{Bits}

@@ -1,15 +1,11 @@
--- `walks::edit_wires` meets its contract. The loop's invariant: `EditedTo` after i signals of the order. Assumes nothing.
-use mathlib.Core.Path.{_≡_, refl, sym, _∙_}
+-- `walks::edit_wires` meets its contract. The loop's invariant: `EditedAt` after i signals of the order. Assumes nothing.
+use mathlib.Core.Path.{_≡_, sym, _∙_}
 use mathlib.Core.Logic.{⊎-elim}
 use Prim.Native.Nat.{_*_, _-_, _≤_}
 use native.Mathlib.Omega.{arith}
 use borrow.Author.Needs.{needs}
 use lib.ListN.{length, length-set}
-use Rattle.netlist.specs.Rule.{env}
-use Rattle.netlist.specs.Table.{signalLimit, signalCount, gateOf}
-use Rattle.netlist.specs.Wires.{valuesOn, inputsOn}
-use Rattle.netlist.specs.Invariant.{EditedTo}
-use Rattle.walks.specs.Marked.{touchesMarked}
+use Rattle.netlist.specs.Table.{signalLimit, signalCount}
 use Rattle.walks.specs.Walks.{StillWires}
 use Rattle.walks.proofs.Laying.{still-same}
 use Rattle.walks.proofs.Turns.{EditedAt, turn, turn-wires, set-still, edit-start, edit-turn, edit-pass, edit-end}
