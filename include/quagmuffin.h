@@ -8,7 +8,7 @@
  *
  *   - no pointer is null, also where the length is 0
  *   - a buffer has as many elements as its length says, and no other thread touches them during the call, but to read const ones
- *   - a buffer of words is aligned as uint64_t
+ *   - a buffer of words is aligned as uint64_t, a list of edits as qm_change
  *   - a buffer that is not const overlaps no other of the call
  *   - 61 KB of stack are left
  *
@@ -20,6 +20,7 @@
  *   flops      n bytes, one a slice: bits 0-3 main flip-flops A to D, bits 4-7 second ones
  *   inputs     m bytes, 0 or 1
  *   values     32n bytes, 0 or 1, by signal number
+ *   edits      0 to 256 edits; the padding of the struct is not read, and may hold anything
  *   record     the 127 bytes of a slice record
  *   body       124 bytes, the fields of a slice record in the file's layout: a record without its first three bytes
  *   part       the 127 bytes or more of a file from where a slice record is to stand
@@ -34,8 +35,8 @@
  *   2   tag not 1, 2, 3                                           8   bytes after the end record
  *   3   length not the tag's                                      9   a loop
  *   4   tag or slice number not the one due                      10   a buffer of another length than named
- *   5   n, m or a choice outside its list                        11   an argument, a byte or a state not in range, or a
- *   6   choices that don't go together                                word with bits 32-63 set in shift mode
+ *   5   n, m or a choice outside its list                        11   an argument, a byte, an edit or a state not in range,
+ *   6   choices that don't go together                                or a word with bits 32-63 set in shift mode
  *
  * The place of 1 to 8 is the offset of the record, that of 9 the smallest signal on a loop, that of 10 and 11 is 0. A call on a file judges
  * it first and gives the judge's refusal; then 10; then 11. The two record calls test 10 (the body first), then n and m (11), then 2 to 7, at
@@ -73,13 +74,18 @@ uint64_t qm_settle(const uint8_t *file, size_t file_len, const uint64_t *content
 uint64_t qm_clock(const uint8_t *file, size_t file_len, uint64_t *contents, size_t contents_len, uint8_t *flops, size_t flops_len,
                   const uint8_t *inputs, size_t inputs_len, uint8_t *values, size_t values_len);
 
-/* Sets an outside input to a byte, 0 or 1, and recomputes each signal that depends on it; all others keep their bytes. */
-uint64_t qm_edit_input(const uint8_t *file, size_t file_len, const uint64_t *contents, size_t contents_len, const uint8_t *flops,
-                       size_t flops_len, uint8_t *inputs, size_t inputs_len, uint8_t *values, size_t values_len, size_t input, uint8_t byte);
+/* An edit, by its kind. 0: outside input `number` is set to `value`, 0 or 1. 1: the contents of table `number`, counted as the words of the
+ * contents, are set to `value`. */
+typedef struct { uint8_t kind; uint64_t number; uint64_t value; } qm_change;
 
-/* Sets a table's contents to a word, and recomputes each signal that depends on them; all others keep their bytes. */
-uint64_t qm_edit_table(const uint8_t *file, size_t file_len, uint64_t *contents, size_t contents_len, const uint8_t *flops, size_t flops_len,
-                       const uint8_t *inputs, size_t inputs_len, uint8_t *values, size_t values_len, size_t table, uint64_t word);
+/* Makes the edits one after another, in their order: sets inputs and contents, and recomputes each signal that depends on any of these
+ * changes; all others keep their bytes, settled or not. Setting what is there already is a change as well. An empty list changes nothing.
+ *
+ * All edits are tested before the first is made. 11 is given for more than 256 of them, whatever they are, and for one whose kind is above 1,
+ * whose number is not below m (kind 0) or 4n (kind 1), whose value is above 1 (kind 0), or has one of bits 32-63 set while the table is in
+ * shift mode (kind 1), also where a later edit replaces it. The length of the list is never 10. */
+uint64_t qm_edit(const uint8_t *file, size_t file_len, uint64_t *contents, size_t contents_len, const uint8_t *flops, size_t flops_len,
+                 uint8_t *inputs, size_t inputs_len, uint8_t *values, size_t values_len, const qm_change *edits, size_t edits_len);
 
 /* Reads a slice record of a file of n slices and m outside inputs, any number below n being due, and fills the body with its fields. */
 uint64_t qm_read_record(const uint8_t *record, size_t record_len, size_t n, size_t m, uint8_t *body, size_t body_len);

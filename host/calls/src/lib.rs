@@ -4,6 +4,8 @@
 use std::fmt;
 
 mod exported {
+    use super::Change;
+
     extern "C" {
         pub fn qm_judge(file: *const u8, file_len: usize) -> u64;
 
@@ -42,10 +44,10 @@ mod exported {
             values_len: usize,
         ) -> u64;
 
-        pub fn qm_edit_input(
+        pub fn qm_edit(
             file: *const u8,
             file_len: usize,
-            contents: *const u64,
+            contents: *mut u64,
             contents_len: usize,
             flops: *const u8,
             flops_len: usize,
@@ -53,23 +55,8 @@ mod exported {
             inputs_len: usize,
             values: *mut u8,
             values_len: usize,
-            input: usize,
-            byte: u8,
-        ) -> u64;
-
-        pub fn qm_edit_table(
-            file: *const u8,
-            file_len: usize,
-            contents: *mut u64,
-            contents_len: usize,
-            flops: *const u8,
-            flops_len: usize,
-            inputs: *const u8,
-            inputs_len: usize,
-            values: *mut u8,
-            values_len: usize,
-            table: usize,
-            word: u64,
+            edits: *const Change,
+            edits_len: usize,
         ) -> u64;
 
         pub fn qm_read_record(
@@ -239,21 +226,53 @@ pub fn clock(
     })
 }
 
-/// Sets an outside input, and recomputes the signals that depend on it.
-pub fn edit_input(
+/// The most edits that a list may have.
+pub const MOST_EDITS: usize = 256;
+
+/// An edit as the library takes it: what `number` is goes by the kind, and none of the three has to be in range.
+#[repr(C)]
+#[derive(Clone, Copy, Debug, PartialEq, Eq)]
+pub struct Change {
+    /// 0 for an outside input, 1 for a table's contents.
+    pub kind: u8,
+    pub number: u64,
+    pub value: u64,
+}
+
+impl Change {
+    /// Sets an outside input to a byte.
+    pub fn input(input: usize, byte: u8) -> Change {
+        Change {
+            kind: 0,
+            number: input as u64,
+            value: byte.into(),
+        }
+    }
+
+    /// Sets the contents of table 4s + letter to a word.
+    pub fn table(table: usize, word: u64) -> Change {
+        Change {
+            kind: 1,
+            number: table as u64,
+            value: word,
+        }
+    }
+}
+
+/// Makes edits in their order, and recomputes the signals that depend on them.
+pub fn edit(
     file: &[u8],
-    contents: &[u64],
+    contents: &mut [u64],
     flops: &[u8],
     inputs: &mut [u8],
     values: &mut [u8],
-    input: usize,
-    byte: u8,
+    edits: &[Change],
 ) -> Answer {
     answer(unsafe {
-        exported::qm_edit_input(
+        exported::qm_edit(
             file.as_ptr(),
             file.len(),
-            contents.as_ptr(),
+            contents.as_mut_ptr(),
             contents.len(),
             flops.as_ptr(),
             flops.len(),
@@ -261,36 +280,8 @@ pub fn edit_input(
             inputs.len(),
             values.as_mut_ptr(),
             values.len(),
-            input,
-            byte,
-        )
-    })
-}
-
-/// Sets a table's contents, and recomputes the signals that depend on them.
-pub fn edit_table(
-    file: &[u8],
-    contents: &mut [u64],
-    flops: &[u8],
-    inputs: &[u8],
-    values: &mut [u8],
-    table: usize,
-    word: u64,
-) -> Answer {
-    answer(unsafe {
-        exported::qm_edit_table(
-            file.as_ptr(),
-            file.len(),
-            contents.as_mut_ptr(),
-            contents.len(),
-            flops.as_ptr(),
-            flops.len(),
-            inputs.as_ptr(),
-            inputs.len(),
-            values.as_mut_ptr(),
-            values.len(),
-            table,
-            word,
+            edits.as_ptr(),
+            edits.len(),
         )
     })
 }

@@ -1,6 +1,6 @@
 //! An accepted file and its buffers, so that a call takes only what it is about.
 
-use calls::{Accepted, Answer, Refused};
+use calls::{Accepted, Answer, Change, Refused};
 
 /// A file that was accepted, with the buffers of its calls.
 ///
@@ -96,32 +96,18 @@ impl Column {
         )
     }
 
-    /// Sets an outside input to a byte, and recomputes the values that depend on it. Values that were settled are settled again; after a clock,
-    /// or inputs set otherwise, those that don't depend on it stay as they were. Refuses 11 where the number is not below m, or the byte or an
-    /// input byte is not 0 or 1.
-    pub fn edit_input(&mut self, input: usize, byte: u8) -> Answer {
-        calls::edit_input(
-            &self.file,
-            &self.contents,
-            &self.flops,
-            &mut self.inputs,
-            &mut self.values,
-            input,
-            byte,
-        )
-    }
-
-    /// Sets a table's contents to a word, and recomputes the values that depend on them, as `edit_input` does. Refuses 11 where the number is
-    /// not below 4n, the table is in shift mode and the word has one of bits 32-63 set, or an input byte is not 0 or 1.
-    pub fn edit_table(&mut self, table: usize, word: u64) -> Answer {
-        calls::edit_table(
+    /// Makes edits of inputs and of tables' contents, one after another, and recomputes the values that depend on any of them. Values that
+    /// were settled are settled again; after a clock, or inputs set otherwise, those that depend on none stay as they were. Refuses 11 where
+    /// there are more than `MOST_EDITS`, one is out of range (an input not below m or a byte not 0 or 1; a table not below 4n, or in shift mode
+    /// and the word has one of bits 32-63 set), or an input byte is not 0 or 1.
+    pub fn edit(&mut self, edits: &[Change]) -> Answer {
+        calls::edit(
             &self.file,
             &mut self.contents,
             &self.flops,
-            &self.inputs,
+            &mut self.inputs,
             &mut self.values,
-            table,
-            word,
+            edits,
         )
     }
 }

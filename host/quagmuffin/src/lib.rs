@@ -5,6 +5,8 @@
 mod column;
 mod reader;
 
-pub use calls::{judge, read_record, write_record, Accepted, Answer, Refused, Verdict};
+pub use calls::{
+    judge, read_record, write_record, Accepted, Answer, Change, Refused, Verdict, MOST_EDITS,
+};
 pub use column::Column;
 pub use reader::Reader;

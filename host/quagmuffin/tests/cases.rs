@@ -1,7 +1,7 @@
 //! The paper's worked cases through the exported library, with what they have to give, written by hand.
 
 use model::layout::*;
-use quagmuffin::{judge, Accepted, Refused};
+use quagmuffin::{judge, Accepted, Change, Refused};
 use testkit::cases::{long_files, sizes, truncations, worked, worked_file};
 use testkit::column::{z, z_slicem, Column};
 use testkit::traps;
@@ -145,7 +145,7 @@ fn an_input_touches_no_open_pin() {
     bench.values.lend().fill(1);
     let mut expected = bench.clone();
     expected.inputs.lend()[0] = 1;
-    assert_eq!(bench.edit_input(0, 1), Ok(()));
+    assert_eq!(bench.edit(&[Change::input(0, 1)]), Ok(()));
     assert_eq!(bench, expected);
 }
 
@@ -165,7 +165,7 @@ fn power_up_takes_contents_and_bits() {
 fn edited_input_is_as_settled_afresh() {
     let mut bench = Workbench::settled(passes_input(), &[0]);
     assert_eq!(ones(&bench), []);
-    assert_eq!(bench.edit_input(0, 1), Ok(()));
+    assert_eq!(bench.edit(&[Change::input(0, 1)]), Ok(()));
     assert_eq!(ones(&bench), [0, 4, 12, 20]);
     assert_eq!(bench, settled_afresh(&bench));
 }
@@ -173,7 +173,7 @@ fn edited_input_is_as_settled_afresh() {
 #[test]
 fn edited_table_is_as_settled_afresh() {
     let mut bench = Workbench::settled(worked_file(1), &[]);
-    assert_eq!(bench.edit_table(A, 1), Ok(()));
+    assert_eq!(bench.edit(&[Change::table(A, 1)]), Ok(()));
     assert_eq!(bench.contents.get(), [1, 0, 0, 0]);
     assert_eq!(ones(&bench), [0, 4, 12, 20]);
     assert_eq!(bench, settled_afresh(&bench));
@@ -186,7 +186,7 @@ fn edit_of_a_stale_table() {
     bench.values.lend().fill(1);
     bench.values.lend()[0] = 0;
     bench.values.lend()[20] = 0;
-    assert_eq!(bench.edit_input(0, 0), Ok(()));
+    assert_eq!(bench.edit(&[Change::input(0, 0)]), Ok(()));
     // What depends on the input: O6, O5 and AMUX of A, all carries and sums, F7A and F8. A's O6, O5, carry and sum come out 0. B, C and D have
     // a stale 1 as O6: each passes the carry below on, a 0, and its sum is 1. AX and BX are 0, so F7A is B's O6 and F8 is F7B, stale ones.
     let zeros = [0, 4, 8, 9, 10, 11, 12, 20];

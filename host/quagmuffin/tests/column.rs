@@ -1,7 +1,7 @@
 //! `Column`: the worked cases, edits and refusals through buffers of its own, with what they have to give, written by hand.
 
 use model::layout::*;
-use quagmuffin::{Accepted, Answer, Column, Refused};
+use quagmuffin::{Accepted, Answer, Change, Column, Refused, MOST_EDITS};
 use testkit::cases::worked_file;
 use testkit::column::{self, z_slicem};
 
@@ -135,7 +135,7 @@ fn power_up_leaves_inputs_and_values() {
 fn edited_input_is_as_settled_afresh() {
     let mut column = passes_input();
     assert_eq!(ones(&column), []);
-    assert_eq!(column.edit_input(0, 1), Ok(()));
+    assert_eq!(column.edit(&[Change::input(0, 1)]), Ok(()));
     assert_eq!(column.inputs(), [1]);
     assert_eq!(ones(&column), [0, 4, 12, 20]);
     let mut afresh = passes_input();
@@ -149,7 +149,7 @@ fn edited_input_is_as_settled_afresh() {
 fn edited_table_is_as_settled_afresh() {
     let mut column = accepted(worked_file(1));
     assert_eq!(ones(&column), []);
-    assert_eq!(column.edit_table(A, 1), Ok(()));
+    assert_eq!(column.edit(&[Change::table(A, 1)]), Ok(()));
     let afresh = accepted(worked_file(2));
     assert_eq!(column.contents(), afresh.contents());
     assert_eq!(column.values(), afresh.values());
@@ -165,24 +165,67 @@ fn every_call_at_other_sizes() {
         assert_eq!(column.size(), Accepted { n, m });
         assert_eq!(column.clock(), Ok(()));
         if m > 0 {
-            assert_eq!(column.edit_input(m - 1, 1), Ok(()));
+            assert_eq!(column.edit(&[Change::input(m - 1, 1)]), Ok(()));
             assert_eq!(column.inputs()[m - 1], 1);
         }
-        assert_eq!(column.edit_table(4 * n - 1, 1), Ok(()));
+        assert_eq!(column.edit(&[Change::table(4 * n - 1, 1)]), Ok(()));
         // O6, O5 and sum of D in the last slice, F7B, F8 and DMUX.
         let last = [3, 7, 15, 17, 18, 23].map(|k| 32 * (n - 1) + k);
         assert_eq!(ones(&column), last, "{n} slices");
     }
 }
 
+/// Input 0 is set, A turned round, and the input set again: A is 1 where it is 0.
+#[test]
+fn edits_in_their_order() {
+    let mut column = passes_input();
+    let edits = [
+        Change::input(0, 1),
+        Change::table(A, 1),
+        Change::input(0, 0),
+    ];
+    assert_eq!(column.edit(&edits[..1]), Ok(()));
+    assert_eq!(ones(&column), [0, 4, 12, 20]);
+    assert_eq!(column.edit(&edits[..2]), Ok(()));
+    assert_eq!(ones(&column), []);
+    assert_eq!(column.edit(&edits), Ok(()));
+    assert_eq!(ones(&column), [0, 4, 12, 20]);
+    assert_eq!((column.inputs(), column.contents()[A]), (&[0][..], 1));
+    let before = column.clone();
+    assert_eq!(column.edit(&[]), Ok(()));
+    assert_eq!(column, before);
+}
+
+#[test]
+fn no_more_than_256_edits() {
+    let mut column = passes_input();
+    let edits = [Change::input(0, 1); 257];
+    assert_eq!(MOST_EDITS, 256);
+    refuses_11(
+        &column,
+        |column| column.edit(&[Change::input(0, 1); 257]),
+        "257 edits",
+    );
+    assert_eq!(column.edit(&edits[..256]), Ok(()));
+    assert_eq!(ones(&column), [0, 4, 12, 20]);
+}
+
 #[test]
 fn an_edit_out_of_range() {
     let column = passes_input();
-    refuses_11(&column, |column| column.edit_input(1, 1), "input m");
-    refuses_11(&column, |column| column.edit_input(0, 2), "input byte 2");
-    refuses_11(&column, |column| column.edit_table(4, 1), "table 4n");
+    let edits: [(&str, fn(&mut Column) -> Answer); 4] = [
+        ("input m", |column| column.edit(&[Change::input(1, 1)])),
+        ("input byte 2", |column| column.edit(&[Change::input(0, 2)])),
+        ("table 4n", |column| column.edit(&[Change::table(4, 1)])),
+        ("after one in range", |column| {
+            column.edit(&[Change::input(0, 1), Change::input(1, 1)])
+        }),
+    ];
+    for (why, edit) in edits {
+        refuses_11(&column, edit, why);
+    }
     let shifts = accepted(z_slicem().set(0, MODE + D, 2).bytes());
-    let edit: fn(&mut Column) -> Answer = |column| column.edit_table(D, 1 << 32);
+    let edit: fn(&mut Column) -> Answer = |column| column.edit(&[Change::table(D, 1 << 32)]);
     refuses_11(&shifts, edit, "bit 32 in shift mode");
 }
 
@@ -192,8 +235,12 @@ fn an_input_byte_2() {
     column.inputs_mut()[0] = 2;
     refuses_11(&column, Column::settle, "settle");
     refuses_11(&column, Column::clock, "clock");
-    refuses_11(&column, |column| column.edit_input(0, 1), "edit input");
-    refuses_11(&column, |column| column.edit_table(A, 1), "edit table");
+    refuses_11(
+        &column,
+        |column| column.edit(&[Change::input(0, 1)]),
+        "edit",
+    );
+    refuses_11(&column, |column| column.edit(&[]), "no edit");
     assert_eq!(column.power_up(), Ok(()), "no input is read");
     column.inputs_mut()[0] = 1;
     assert_eq!(column.settle(), Ok(()));

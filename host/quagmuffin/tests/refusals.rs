@@ -1,7 +1,7 @@
 //! A refused call writes nothing: every buffer and the guards around it are as before.
 
 use model::layout::*;
-use quagmuffin::{Answer, Refused};
+use quagmuffin::{Answer, Change, Refused};
 use testkit::column::{z, z_slicem, Column};
 use workbench::lent::Lent;
 use workbench::Workbench;
@@ -11,9 +11,20 @@ type Call = fn(&mut Workbench) -> Answer;
 const POWER_UP_CALL: (&str, Call) = ("power up", Workbench::power_up);
 const SETTLE: (&str, Call) = ("settle", Workbench::settle);
 const CLOCK: (&str, Call) = ("clock", Workbench::clock);
-const EDIT_INPUT: (&str, Call) = ("edit input", |bench| bench.edit_input(0, 1));
-const EDIT_TABLE: (&str, Call) = ("edit table", |bench| bench.edit_table(0, 1));
-const ALL: [(&str, Call); 5] = [POWER_UP_CALL, SETTLE, CLOCK, EDIT_INPUT, EDIT_TABLE];
+const EDIT_NOTHING: (&str, Call) = ("edit nothing", |bench| bench.edit(&[]));
+const EDIT_INPUT: (&str, Call) = ("edit input", |bench| bench.edit(&[Change::input(0, 1)]));
+const EDIT_TABLE: (&str, Call) = ("edit table", |bench| bench.edit(&[Change::table(0, 1)]));
+const EDIT_TOO_OFTEN: (&str, Call) = ("257 edits", |bench| bench.edit(&[Change::input(0, 1); 257]));
+const EDITS: [(&str, Call); 4] = [EDIT_NOTHING, EDIT_INPUT, EDIT_TABLE, EDIT_TOO_OFTEN];
+const ALL: [(&str, Call); 7] = [
+    POWER_UP_CALL,
+    SETTLE,
+    CLOCK,
+    EDIT_NOTHING,
+    EDIT_INPUT,
+    EDIT_TABLE,
+    EDIT_TOO_OFTEN,
+];
 
 /// The calls refuse with the number and the place, and write nothing.
 fn refuse(calls: &[(&str, Call)], bench: &Workbench, number: u8, place: u64, why: &str) {
@@ -93,7 +104,7 @@ fn a_byte_or_word_out_of_range() {
     let bench = changed(&good, |bench| bench.contents.lend()[D] = 1 << 32);
     refuse(&ALL[1..], &bench, 11, 0, "bit 32 in shift mode");
     let stale = changed(&good, |bench| bench.values.lend()[31] = 2);
-    refuse(&[EDIT_INPUT, EDIT_TABLE], &stale, 11, 0, "a value byte 2");
+    refuse(&EDITS, &stale, 11, 0, "a value byte 2");
     let mut filled = stale.clone();
     assert_eq!(
         filled.settle(),
@@ -101,20 +112,4 @@ fn a_byte_or_word_out_of_range() {
         "value bytes that are only filled are not judged"
     );
     assert_eq!(filled, good);
-}
-
-#[test]
-fn an_argument_out_of_range() {
-    let good = shifting();
-    let edits: [(&str, Call); 8] = [
-        ("input m", |bench| bench.edit_input(1, 1)),
-        ("input 2^32", |bench| bench.edit_input(1 << 32, 1)),
-        ("the largest input", |bench| bench.edit_input(usize::MAX, 1)),
-        ("input byte 2", |bench| bench.edit_input(0, 2)),
-        ("table 4n", |bench| bench.edit_table(4, 0)),
-        ("table 2^32", |bench| bench.edit_table(1 << 32, 0)),
-        ("the largest table", |bench| bench.edit_table(usize::MAX, 0)),
-        ("bit 63 in shift mode", |bench| bench.edit_table(D, 1 << 63)),
-    ];
-    refuse(&edits, &good, 11, 0, "an argument");
 }

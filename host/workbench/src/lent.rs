@@ -1,5 +1,7 @@
 //! Buffers to lend, with guards around them, for tests.
 
+use calls::Change;
+
 const GUARDS: usize = 64;
 
 /// A buffer that lies between guards: what is lent is the middle.
@@ -18,6 +20,18 @@ impl Lent<u8> {
 impl Lent<u64> {
     pub fn words(inside: &[u64]) -> Lent<u64> {
         Lent::new(inside, 0xA5A5_A5A5_A5A5_A5A5)
+    }
+}
+
+/// The guards are edits of no kind, so that one that is read is refused.
+impl Lent<Change> {
+    pub fn edits(inside: &[Change]) -> Lent<Change> {
+        let guard = Change {
+            kind: 0xA5,
+            number: 0,
+            value: 0,
+        };
+        Lent::new(inside, guard)
     }
 }
 

@@ -3,7 +3,7 @@
 pub mod lent;
 
 use crate::lent::Lent;
-use calls::{Accepted, Answer};
+use calls::{Accepted, Answer, Change};
 
 /// A file and the buffers of its calls.
 #[derive(Clone, Debug, PartialEq)]
@@ -70,27 +70,14 @@ impl Workbench {
         )
     }
 
-    pub fn edit_input(&mut self, input: usize, byte: u8) -> Answer {
-        calls::edit_input(
-            self.file.get(),
-            self.contents.get(),
-            self.flops.get(),
-            self.inputs.lend(),
-            self.values.lend(),
-            input,
-            byte,
-        )
-    }
-
-    pub fn edit_table(&mut self, table: usize, word: u64) -> Answer {
-        calls::edit_table(
+    pub fn edit(&mut self, edits: &[Change]) -> Answer {
+        calls::edit(
             self.file.get(),
             self.contents.lend(),
             self.flops.get(),
-            self.inputs.get(),
+            self.inputs.lend(),
             self.values.lend(),
-            table,
-            word,
+            edits,
         )
     }
 }
