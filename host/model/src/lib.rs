@@ -6,6 +6,7 @@ pub mod adders;
 pub mod check;
 pub mod design;
 pub mod edge;
+pub mod edits;
 pub mod graph;
 pub mod input;
 pub mod layout;

@@ -1,10 +1,11 @@
 //! The calls that run a column, with their refusals.
 
-use crate::design::{Mode, Source, SIGNALS};
+use crate::design::{Mode, SIGNALS};
 use crate::edge::Edge;
+use crate::edits::{Edit, Editable};
 use crate::rules::Rules;
 use crate::values::{settled, State};
-use crate::workings::Workings;
+use crate::workings::{Tests, Workings};
 use crate::{judge, Design, Verdict};
 
 #[derive(Clone, Copy, Debug, PartialEq, Eq)]
@@ -73,7 +74,7 @@ impl Simulator {
         let state = State::of(contents, flops, inputs);
         let design = self.design()?;
         require(lengths_are_right(design, state, values), 10)?;
-        require(self.in_range(design, state), 11)?;
+        require(in_range(&self.workings.tests, design, state), 11)?;
         values.copy_from_slice(&settled(&self.workings, design, state));
         Ok(())
     }
@@ -106,70 +107,23 @@ impl Simulator {
         Ok(())
     }
 
-    /// Sets an input, and recomputes what depends on it.
-    pub fn edit_input(
-        &self,
-        contents: &[u64],
-        flops: &[u8],
-        inputs: &mut [u8],
-        values: &mut [u8],
-        input: usize,
-        byte: u8,
-    ) -> Answer {
-        let design = self.design()?;
-        self.can_edit(design, State::of(contents, flops, inputs), values)?;
-        require(input < design.m, 11)?;
-        require(byte <= 1 || !self.workings.tests.new_byte, 11)?;
-        inputs[input] = byte;
-        let reads = |x| (self.workings.sources)(design, x).contains(&Source::Input(input));
-        let first: Vec<bool> = (0..SIGNALS * design.n).map(reads).collect();
-        let state = State::of(contents, flops, inputs);
-        let new = (self.workings.edited)(&self.workings, design, state, values, &first);
-        values.copy_from_slice(&new);
-        Ok(())
-    }
-
-    /// Sets a table's contents, and recomputes what depends on them.
-    pub fn edit_table(
+    /// Makes a list of edits in their order, and recomputes what depends on them.
+    pub fn edit(
         &self,
         contents: &mut [u64],
         flops: &[u8],
-        inputs: &[u8],
+        inputs: &mut [u8],
         values: &mut [u8],
-        table: usize,
-        word: u64,
+        edits: &[Edit],
     ) -> Answer {
         let design = self.design()?;
-        self.can_edit(design, State::of(contents, flops, inputs), values)?;
-        require(table < 4 * design.n, 11)?;
-        let fits = fits(design, table, word) || !self.workings.tests.new_word;
-        require(fits, 11)?;
-        contents[table] = word;
-        let mut first = vec![false; SIGNALS * design.n];
-        for signal in (self.workings.of_table)(table % 4) {
-            first[signal.of_slice(table / 4)] = true;
-        }
-        let state = State::of(contents, flops, inputs);
-        let new = (self.workings.edited)(&self.workings, design, state, values, &first);
-        values.copy_from_slice(&new);
-        Ok(())
-    }
-
-    /// What both edits test of the buffers. They read the values as well, so
-    /// those are judged.
-    fn can_edit(&self, design: &Design, state: State, values: &[u8]) -> Answer {
-        require(lengths_are_right(design, state, values), 10)?;
-        require(self.in_range(design, state), 11)?;
-        let tested = self.workings.tests.value_bytes;
-        require(!tested || values.iter().all(|&byte| byte <= 1), 11)
-    }
-
-    /// Whether inputs and contents are such as a column can have.
-    fn in_range(&self, design: &Design, state: State) -> bool {
-        let tests = self.workings.tests;
-        let mut words = (0..4 * design.n).map(|table| fits(design, table, state.contents[table]));
-        (!tests.input_bytes || state.inputs.iter().all(|&byte| byte <= 1))
-            && (!tests.words || words.all(|fits| fits))
+        let mut lent = Editable {
+            contents,
+            flops,
+            inputs,
+            values,
+        };
+        (self.workings.edit)(&self.workings, design, &mut lent, edits)
     }
 }
 
@@ -181,14 +135,21 @@ pub fn require(passed: bool, number: u8) -> Answer {
     }
 }
 
-fn lengths_are_right(design: &Design, state: State, values: &[u8]) -> bool {
+pub(crate) fn lengths_are_right(design: &Design, state: State, values: &[u8]) -> bool {
     state.contents.len() == 4 * design.n
         && state.flops.len() == design.n
         && state.inputs.len() == design.m
         && values.len() == SIGNALS * design.n
 }
 
+/// Whether inputs and contents are such as a column can have.
+pub(crate) fn in_range(tests: &Tests, design: &Design, state: State) -> bool {
+    let mut words = (0..4 * design.n).map(|table| fits(design, table, state.contents[table]));
+    (!tests.input_bytes || state.inputs.iter().all(|&byte| byte <= 1))
+        && (!tests.words || words.all(|fits| fits))
+}
+
 /// Whether a table can hold a word: in shift mode bits 32 to 63 are zero.
-fn fits(design: &Design, table: usize, word: u64) -> bool {
+pub(crate) fn fits(design: &Design, table: usize, word: u64) -> bool {
     design.slices[table / 4].mode[table % 4] != Mode::Shift || word >> 32 == 0
 }

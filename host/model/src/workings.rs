@@ -2,12 +2,17 @@
 //! change one thing at a time, to see that each such mistake would be noticed.
 
 use crate::design::{Design, MainInput, SecondInput, Signal, Source};
+use crate::edits::{edit, Edit, Editable};
 use crate::layout::*;
+use crate::simulate::Answer;
 use crate::values::{edited, State};
 
 /// The values after an edit, by those before it and the signals that read the
 /// changed thing themselves.
 pub type Edited = fn(&Workings, &Design, State, values: &[u8], first: &[bool]) -> Vec<u8>;
+
+/// Tests a list of edits and makes them.
+pub type EditAll = fn(&Workings, &Design, &mut Editable, &[Edit]) -> Answer;
 
 /// What a signal, a flip-flop and a table take, and what a call tests.
 #[derive(Clone, Copy, Debug)]
@@ -17,6 +22,9 @@ pub struct Workings {
     /// The signals that belong to the contents of a letter's table.
     pub of_table: fn(letter: usize) -> Vec<Signal>,
     pub edited: Edited,
+    pub edit: EditAll,
+    /// The most edits that a list may have.
+    pub most_edits: usize,
     /// Whether all slices see the signals settled before the edge.
     pub together: bool,
     /// Whether a set/reset acts without clock enable.
@@ -49,6 +57,8 @@ impl Workings {
             sources: Design::sources,
             of_table,
             edited,
+            edit,
+            most_edits: 256,
             together: true,
             set_reset_over_enable: true,
             main_input,
