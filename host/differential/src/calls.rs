@@ -2,7 +2,8 @@
 
 use std::fmt;
 
-use ::calls::{Refused, Verdict};
+use ::calls::{Change, Refused, Verdict};
+use model::edits::Edit;
 use model::reader::{certain, feed, Certain};
 use model::records::{read_record, write_record};
 use model::simulate::Refusal;
@@ -16,8 +17,7 @@ pub enum Call {
     PowerUp,
     Settle,
     Clock,
-    EditInput { input: usize, byte: u8 },
-    EditTable { table: usize, word: u64 },
+    Edit,
     ReadRecord { n: usize, m: usize },
     WriteRecord { n: usize, m: usize },
     Feed { last: u8 },
@@ -46,6 +46,7 @@ impl fmt::Display for Answer {
 #[derive(Clone, Debug, PartialEq)]
 pub struct Buffers {
     pub column: Workbench,
+    pub edits: Lent<Change>,
     pub record: Lent<u8>,
     pub body: Lent<u8>,
     pub part: Lent<u8>,
@@ -59,6 +60,7 @@ impl Buffers {
     pub fn of_column(column: Workbench) -> Buffers {
         Buffers {
             column,
+            edits: Lent::edits(&[]),
             record: Lent::bytes(&[]),
             body: Lent::bytes(&[]),
             part: Lent::bytes(&[]),
@@ -135,8 +137,7 @@ pub fn by_library(call: Call, buffers: &mut Buffers) -> Answer {
         Call::PowerUp => column.power_up(),
         Call::Settle => column.settle(),
         Call::Clock => column.clock(),
-        Call::EditInput { input, byte } => column.edit_input(input, byte),
-        Call::EditTable { table, word } => column.edit_table(table, word),
+        Call::Edit => column.edit(buffers.edits.get()),
         Call::ReadRecord { n, m } => ::calls::read_record(record.get(), n, m, body.lend()),
         Call::WriteRecord { n, m } => ::calls::write_record(body.get(), n, m, part.lend()),
     };
@@ -202,11 +203,9 @@ impl Model {
             Call::PowerUp => simulator.power_up(contents, flops),
             Call::Settle => simulator.settle(contents, flops, inputs, values),
             Call::Clock => simulator.clock(contents, flops, inputs, values),
-            Call::EditInput { input, byte } => {
-                simulator.edit_input(contents, flops, inputs, values, input, byte)
-            }
-            Call::EditTable { table, word } => {
-                simulator.edit_table(contents, flops, inputs, values, table, word)
+            Call::Edit => {
+                let edits: Vec<Edit> = buffers.edits.get().iter().map(edit).collect();
+                simulator.edit(contents, flops, inputs, values, &edits)
             }
             Call::ReadRecord { n, m } => read_record(rules, record.get(), n, m, body.lend()),
             Call::WriteRecord { n, m } => write_record(rules, body.get(), n, m, part.lend()),
@@ -231,6 +230,15 @@ impl Model {
             Some(model::Verdict::Accepted { n, m }) => Answer::Accepted { n, m },
             Some(model::Verdict::Refused { number, place }) => refused(Refusal { number, place }),
         }
+    }
+}
+
+/// An edit as the model takes it.
+fn edit(change: &Change) -> Edit {
+    Edit {
+        kind: change.kind,
+        number: change.number,
+        value: change.value,
     }
 }
 

@@ -1,6 +1,7 @@
 //! The calls on one file, random but the same for a seed and a file.
 
-use model::design::{Design, Mode, SIGNALS};
+use ::calls::{Change, MOST_EDITS};
+use model::design::{Design, SIGNALS};
 use model::Workings;
 use testkit::prng::Prng;
 use testkit::random;
@@ -9,6 +10,7 @@ use workbench::Workbench;
 
 use crate::calls::{Buffers, Call, Caller, Model};
 use crate::comparison::{Compared, Comparison, Sides};
+use crate::lists::{for_refused, of_length, random_word, MAKERS};
 use crate::Counts;
 
 /// A file, its place among those of the seed, and the model of it.
@@ -73,10 +75,27 @@ pub fn compare(subject: &Subject, sides: Sides, seed: u64) -> Compared<Counts> {
     let mut pair = Comparison::new(format!("{seed}-{number}"), sides, buffers);
     pair.call(Call::Judge)?;
     match subject.model.simulator.design() {
-        Err(_) => each_call(&mut pair, any_edits(&mut rng))?,
+        Err(_) => each_call(&mut pair, &for_refused(&mut rng))?,
         Ok(design) => accepted(&mut pair, &mut rng, design)?,
     }
     pair.counts.files = 1;
+    Ok(pair.counts)
+}
+
+/// Lists with as many edits as one may have, one less and one more, on the stale table of an accepted file.
+pub fn compare_long_lists(subject: &Subject, sides: Sides, seed: u64) -> Compared<Counts> {
+    let design = subject.model.simulator.design();
+    let design = design.expect("an accepted file");
+    let mut rng = Prng::new(seed ^ subject.number as u64);
+    let buffers = Buffers::of_column(lent(&mut rng, &subject.file));
+    let name = format!("{seed}-list-{}", subject.number);
+    let mut pair = Comparison::new(name, sides, buffers);
+    for length in MOST_EDITS - 1..=MOST_EDITS + 1 {
+        scramble(&mut rng, design, &mut pair.buffers.column);
+        pair.buffers.column.values = Lent::bytes(&bits(&mut rng, SIGNALS * design.n));
+        let list = of_length(&mut rng, design, &pair.buffers.column, length);
+        edit(&mut pair, &list)?;
+    }
     Ok(pair.counts)
 }
 
@@ -112,14 +131,19 @@ fn bits(rng: &mut Prng, count: usize) -> Vec<u8> {
 }
 
 /// Each call once, all from the same buffers.
-fn each_call(pair: &mut Comparison, edits: [Call; 2]) -> Compared {
+fn each_call(pair: &mut Comparison, edits: &[Change]) -> Compared {
     let before = pair.buffers.column.clone();
-    let calls = [Call::PowerUp, Call::Settle, Call::Clock];
-    for call in calls.into_iter().chain(edits) {
+    for call in [Call::PowerUp, Call::Settle, Call::Clock] {
         pair.buffers.column = before.clone();
         pair.call(call)?;
     }
-    Ok(())
+    pair.buffers.column = before;
+    edit(pair, edits)
+}
+
+fn edit(pair: &mut Comparison, edits: &[Change]) -> Compared {
+    pair.buffers.edits = Lent::edits(edits);
+    pair.call(Call::Edit)
 }
 
 /// Power up, then clocks and a settle with inputs that change.
@@ -133,11 +157,11 @@ fn clocks(pair: &mut Comparison, rng: &mut Prng) -> Compared {
     Ok(())
 }
 
-/// Edits one after the other, from a settled table.
+/// Edits from a settled table, list after list.
 fn edits(pair: &mut Comparison, rng: &mut Prng, design: &Design) -> Compared {
-    for _ in 0..3 {
-        pair.call(input_edit(rng, design, &pair.buffers.column))?;
-        pair.call(table_edit(rng, design, &pair.buffers.column))?;
+    for list in MAKERS.repeat(3) {
+        let list = list(rng, design, &pair.buffers.column);
+        edit(pair, &list)?;
     }
     Ok(())
 }
@@ -163,64 +187,12 @@ pub(crate) fn scramble(rng: &mut Prng, design: &Design, bench: &mut Workbench) {
 
 /// Edits of tables of random bits, which aren't settled.
 fn stale_edits(pair: &mut Comparison, rng: &mut Prng, design: &Design) -> Compared {
-    for _ in 0..2 {
+    for list in MAKERS.repeat(2) {
         pair.buffers.column.values = Lent::bytes(&bits(rng, SIGNALS * design.n));
-        pair.call(input_edit(rng, design, &pair.buffers.column))?;
-        pair.buffers.column.values = Lent::bytes(&bits(rng, SIGNALS * design.n));
-        pair.call(table_edit(rng, design, &pair.buffers.column))?;
+        let list = list(rng, design, &pair.buffers.column);
+        edit(pair, &list)?;
     }
     Ok(())
-}
-
-/// Edits for a file that is refused, whatever is edited.
-fn any_edits(rng: &mut Prng) -> [Call; 2] {
-    let edit_input = Call::EditInput {
-        input: rng.below(70),
-        byte: rng.below(3) as u8,
-    };
-    let edit_table = Call::EditTable {
-        table: rng.below(300),
-        word: rng.number(),
-    };
-    [edit_input, edit_table]
-}
-
-/// An edit of an outside input, most of them in range.
-fn input_edit(rng: &mut Prng, design: &Design, bench: &Workbench) -> Call {
-    let input = index(rng, design.m);
-    let old = bench.inputs.get().get(input).copied().unwrap_or(0);
-    let byte = match rng.below(10) {
-        0 => *rng.pick(&[2, 3, 128, 254, 255]),
-        1..=3 => old,
-        _ => rng.below(2) as u8,
-    };
-    Call::EditInput { input, byte }
-}
-
-/// An edit of a table, most of them in range.
-fn table_edit(rng: &mut Prng, design: &Design, bench: &Workbench) -> Call {
-    let table = index(rng, 4 * design.n);
-    let old = bench.contents.get().get(table).copied().unwrap_or(0);
-    let word = match rng.below(10) {
-        0 => rng.number() | 1 << rng.from_to(32, 63),
-        1 => old | 1 << rng.from_to(32, 63),
-        2 => old,
-        3 => old ^ 1 << rng.below(32),
-        _ => random_word(rng, design, table),
-    };
-    Call::EditTable { table, word }
-}
-
-/// A number below `count`, or one that has to be refused.
-fn index(rng: &mut Prng, count: usize) -> usize {
-    let inside = rng.below(count.max(1));
-    if rng.chance(85) {
-        return inside;
-    }
-    match rng.chance(30) {
-        true => count + rng.below(2),
-        false => far_number(rng, inside),
-    }
 }
 
 /// A number that is the given one to whoever drops its high bits, or a large one.
@@ -235,15 +207,6 @@ pub fn far_number(rng: &mut Prng, number: usize) -> usize {
     ])
 }
 
-/// A word that a table can hold; any word if there is no such table.
-fn random_word(rng: &mut Prng, design: &Design, table: usize) -> u64 {
-    let slice = design.slices.get(table / 4);
-    match slice.is_some_and(|slice| slice.mode[table % 4] == Mode::Shift) {
-        true => rng.number() >> 32,
-        false => rng.number(),
-    }
-}
-
 /// Buffers that have to be refused by some calls or all, made from good ones.
 fn spoiled(pair: &mut Comparison, rng: &mut Prng, design: &Design) -> Compared {
     pair.buffers.column.values = Lent::bytes(&bits(rng, SIGNALS * design.n));
@@ -253,11 +216,9 @@ fn spoiled(pair: &mut Comparison, rng: &mut Prng, design: &Design) -> Compared {
         for _ in 0..rng.from_to(1, 2) {
             spoil(rng, design, &mut pair.buffers.column);
         }
-        let edits = [
-            input_edit(rng, design, &pair.buffers.column),
-            table_edit(rng, design, &pair.buffers.column),
-        ];
-        each_call(pair, edits)?;
+        let list = rng.pick(&MAKERS);
+        let list = list(rng, design, &pair.buffers.column);
+        each_call(pair, &list)?;
     }
     Ok(())
 }

@@ -73,7 +73,8 @@ fn guard_written(buffers: &Buffers) -> Option<String> {
     let bytes = buffers
         .bytes()
         .map(|(name, lent)| (name, lent.is_guarded()));
-    let mut guarded = words.into_iter().chain(bytes);
+    let edits = [("edits", buffers.edits.is_guarded())];
+    let mut guarded = words.into_iter().chain(bytes).chain(edits);
     let broken = guarded.find(|(_, guarded)| !guarded);
     broken.map(|(name, _)| written(name))
 }
@@ -91,6 +92,7 @@ fn other_cell(library: &Buffers, model: &Buffers) -> Option<String> {
         .or_else(|| {
             bytes.find_map(|((name, library), (_, model))| first_other(name, library, model))
         })
+        .or_else(|| first_other("edits", &library.edits, &model.edits))
 }
 
 fn first_other<T>(name: &str, library: &Lent<T>, model: &Lent<T>) -> Option<String>

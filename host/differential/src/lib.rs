@@ -6,6 +6,7 @@ pub mod calls;
 pub mod columns;
 pub mod comparison;
 pub mod feeds;
+pub mod lists;
 pub mod mutants;
 pub mod records;
 pub mod saved;

@@ -1,11 +1,13 @@
 //! Cases as text: a line for the call and its numbers, and one for each buffer
 //! that isn't empty. Bytes and words are in hexadecimal, words with spaces
-//! between them. A line that starts with # says something to the reader.
+//! between them, and so are edits, each as `kind:number:value`. A line that
+//! starts with # says something to the reader.
 
 use std::collections::BTreeMap;
 use std::fmt::Write;
 use std::path::Path;
 
+use ::calls::Change;
 use testkit::run::differences_folder;
 use workbench::lent::Lent;
 use workbench::Workbench;
@@ -46,11 +48,17 @@ pub fn to_text(case: &Case) -> String {
         .buffers
         .bytes()
         .map(|(name, lent)| (name, digits(lent)));
-    let lines = of_words.into_iter().chain(of_bytes);
+    let of_edits = [("edits", edits_text(case.buffers.edits.get()))];
+    let lines = of_words.into_iter().chain(of_bytes).chain(of_edits);
     for (name, cells) in lines.filter(|(_, cells)| !cells.is_empty()) {
         let _ = writeln!(text, "{name} {cells}");
     }
     text
+}
+
+fn edits_text(edits: &[Change]) -> String {
+    let text = |edit: &Change| format!("{:x}:{:x}:{:x}", edit.kind, edit.number, edit.value);
+    edits.iter().map(text).collect::<Vec<String>>().join(" ")
 }
 
 /// A call as its line has it.
@@ -60,8 +68,7 @@ pub fn name(call: Call) -> String {
         Call::PowerUp => "power_up".to_string(),
         Call::Settle => "settle".to_string(),
         Call::Clock => "clock".to_string(),
-        Call::EditInput { input, byte } => format!("edit_input {input} {byte}"),
-        Call::EditTable { table, word } => format!("edit_table {table} {word}"),
+        Call::Edit => "edit".to_string(),
         Call::ReadRecord { n, m } => format!("read_record {n} {m}"),
         Call::WriteRecord { n, m } => format!("write_record {n} {m}"),
         Call::Feed { last } => format!("feed {last}"),
@@ -105,14 +112,7 @@ fn parse_call(text: &str) -> Option<Call> {
         ("power_up", []) => Call::PowerUp,
         ("settle", []) => Call::Settle,
         ("clock", []) => Call::Clock,
-        ("edit_input", &[input, byte]) => {
-            let byte = u8::try_from(byte).ok()?;
-            Call::EditInput { input, byte }
-        }
-        ("edit_table", &[table, word]) => {
-            let word = word as u64;
-            Call::EditTable { table, word }
-        }
+        ("edit", []) => Call::Edit,
         ("read_record", &[n, m]) => Call::ReadRecord { n, m },
         ("write_record", &[n, m]) => Call::WriteRecord { n, m },
         ("feed", &[last]) => {
@@ -127,6 +127,7 @@ fn parse_call(text: &str) -> Option<Call> {
 fn parse_buffers(lines: &mut BTreeMap<&str, &str>) -> Result<Buffers, String> {
     let contents = lines.remove("contents").map_or(Ok(vec![]), parse_words)?;
     let state = lines.remove("state").map_or(Ok(vec![]), parse_words)?;
+    let edits = lines.remove("edits").map_or(Ok(vec![]), parse_edits)?;
     let mut bytes = |name| {
         let bytes = lines.remove(name).map_or(Ok(vec![]), parse_bytes)?;
         Ok::<Lent<u8>, String>(Lent::bytes(&bytes))
@@ -139,6 +140,7 @@ fn parse_buffers(lines: &mut BTreeMap<&str, &str>) -> Result<Buffers, String> {
             inputs: bytes("inputs")?,
             values: bytes("values")?,
         },
+        edits: Lent::edits(&edits),
         record: bytes("record")?,
         body: bytes("body")?,
         part: bytes("part")?,
@@ -152,6 +154,23 @@ fn parse_words(text: &str) -> Result<Vec<u64>, String> {
     let word =
         |word| u64::from_str_radix(word, 16).map_err(|_| format!("no word: {}", quoted(word)));
     text.split(' ').map(word).collect()
+}
+
+fn parse_edits(text: &str) -> Result<Vec<Change>, String> {
+    let edit = |text| parse_edit(text).ok_or_else(|| format!("no edit: {}", quoted(text)));
+    text.split(' ').map(edit).collect()
+}
+
+fn parse_edit(text: &str) -> Option<Change> {
+    let numbers = text.split(':').map(|x| u64::from_str_radix(x, 16).ok());
+    let &[kind, number, value] = &numbers.collect::<Option<Vec<u64>>>()?[..] else {
+        return None;
+    };
+    Some(Change {
+        kind: kind.try_into().ok()?,
+        number,
+        value,
+    })
 }
 
 fn parse_bytes(text: &str) -> Result<Vec<u8>, String> {

@@ -1,5 +1,6 @@
 //! A wrapper of the library that does something else than hand calls on is caught by the comparison.
 
+use calls::Change;
 use differential::calls::{by_library, Answer, Buffers, Call, Model};
 use differential::comparison::{Difference, Sides};
 use differential::{columns, feeds, records};
@@ -34,27 +35,13 @@ const ANSWERS: [(&str, Broken); 4] = [
 ];
 
 /// Wrappers that hand other things on.
-const HANDED_ON: [(&str, Broken); 7] = [
+const HANDED_ON: [(&str, Broken); 5] = [
     ("settles for a clock", |call, buffers| match call {
         Call::Clock => by_library(Call::Settle, buffers),
         _ => by_library(call, buffers),
     }),
     ("clocks for a settle", |call, buffers| match call {
         Call::Settle => by_library(Call::Clock, buffers),
-        _ => by_library(call, buffers),
-    }),
-    ("keeps 32 bits of an input", |call, buffers| match call {
-        Call::EditInput { input, byte } => {
-            let input = input as u32 as usize;
-            by_library(Call::EditInput { input, byte }, buffers)
-        }
-        _ => by_library(call, buffers),
-    }),
-    ("keeps a byte of a word", |call, buffers| match call {
-        Call::EditTable { table, word } => {
-            let word = word & 255;
-            by_library(Call::EditTable { table, word }, buffers)
-        }
         _ => by_library(call, buffers),
     }),
     (
@@ -76,6 +63,40 @@ const HANDED_ON: [(&str, Broken); 7] = [
     ("lends the writer a copy", |call, buffers| match call {
         Call::WriteRecord { .. } => by_library(call, &mut buffers.clone()),
         _ => by_library(call, buffers),
+    }),
+];
+
+/// Wrappers of an edit call that hand another list on.
+const EDITS: [(&str, Broken); 7] = [
+    ("keeps 32 bits of a number", |call, buffers| {
+        with_list(call, buffers, |list| {
+            let numbers = list.iter_mut().map(|edit| &mut edit.number);
+            numbers.for_each(|number| *number &= 0xFFFF_FFFF);
+        })
+    }),
+    ("keeps a byte of a value", |call, buffers| {
+        with_list(call, buffers, |list| {
+            let values = list.iter_mut().map(|edit| &mut edit.value);
+            values.for_each(|value| *value &= 255);
+        })
+    }),
+    ("takes inputs and tables for each other", |call, buffers| {
+        with_list(call, buffers, |list| {
+            let kinds = list.iter_mut().map(|edit| &mut edit.kind);
+            kinds.for_each(|kind| *kind ^= 1);
+        })
+    }),
+    ("hands one edit less on", |call, buffers| {
+        with_list(call, buffers, |list| list.truncate(list.len().max(1) - 1))
+    }),
+    ("hands the edits on in the other order", |call, buffers| {
+        with_list(call, buffers, |list| list.reverse())
+    }),
+    ("hands the edits on one by one", |call, buffers| {
+        in_parts(call, buffers, 1)
+    }),
+    ("hands a long list on in two", |call, buffers| {
+        in_parts(call, buffers, 256)
     }),
 ];
 
@@ -116,7 +137,7 @@ const FEEDS: [(&str, Broken); 5] = [
 ];
 
 /// Wrappers that write.
-const STORES: [(&str, Broken); 7] = [
+const STORES: [(&str, Broken); 9] = [
     ("writes past the values", |call, buffers| {
         let answer = by_library(call, buffers);
         *past(&mut buffers.column.values) = 0;
@@ -125,6 +146,18 @@ const STORES: [(&str, Broken); 7] = [
     ("writes past the contents", |call, buffers| {
         let answer = by_library(call, buffers);
         *past(&mut buffers.column.contents) = 0;
+        answer
+    }),
+    ("writes past the edits", |call, buffers| {
+        let answer = by_library(call, buffers);
+        past(&mut buffers.edits).kind = 0;
+        answer
+    }),
+    ("writes into the edits", |call, buffers| {
+        let answer = by_library(call, buffers);
+        if let Some(edit) = buffers.edits.lend().first_mut() {
+            edit.value ^= 1;
+        }
         answer
     }),
     ("writes past the part", |call, buffers| {
@@ -175,6 +208,33 @@ fn exchange(buffers: &mut Buffers) {
     std::mem::swap(&mut column.flops, &mut column.inputs);
 }
 
+/// Makes an edit call with a copy of the list that was changed.
+fn with_list(call: Call, buffers: &mut Buffers, change: fn(&mut Vec<Change>)) -> Answer {
+    let lent = buffers.edits.clone();
+    let mut list = lent.get().to_vec();
+    change(&mut list);
+    buffers.edits = Lent::edits(&list);
+    let answer = by_library(call, buffers);
+    buffers.edits = lent;
+    answer
+}
+
+/// Makes an edit call for each part of so many edits, up to one that is refused.
+fn in_parts(call: Call, buffers: &mut Buffers, length: usize) -> Answer {
+    let lent = buffers.edits.clone();
+    if call != Call::Edit || lent.get().len() <= length {
+        return by_library(call, buffers);
+    }
+    let mut part = |list: &[Change]| {
+        buffers.edits = Lent::edits(list);
+        by_library(call, buffers)
+    };
+    let mut answers = lent.get().chunks(length).map(&mut part);
+    let refused = answers.find(|&answer| answer != Answer::Done);
+    buffers.edits = lent;
+    refused.unwrap_or(Answer::Done)
+}
+
 /// Puts the run at the start of the store, as far as it fits.
 fn put_first(buffers: &mut Buffers) {
     for (cell, byte) in buffers.store.lend().iter_mut().zip(buffers.run.get()) {
@@ -223,7 +283,7 @@ fn every_broken_wrapper_is_caught() {
         records: every_sixteenth(records::subjects(seed(), 1)),
         fed: every_sixteenth(random::files(seed(), 1)),
     };
-    let wrappers = [&ANSWERS[..], &HANDED_ON, &FEEDS, &STORES].concat();
+    let wrappers = [&ANSWERS[..], &HANDED_ON, &EDITS, &FEEDS, &STORES].concat();
     for (name, broken) in &wrappers {
         let found = found(*broken, &subjects);
         assert!(!found.is_empty(), "not caught: {name}");

@@ -4,7 +4,7 @@ use calls::{read_record, write_record};
 use differential::calls::{by_library, Answer, Buffers, Call, Model};
 use differential::comparison::Sides;
 use differential::saved::agreed;
-use differential::{columns, records};
+use differential::{columns, records, Counts};
 use model::design::Driver;
 use model::layout::*;
 use model::Workings;
@@ -12,7 +12,7 @@ use testkit::column::pull_up;
 use testkit::random::{seed, times};
 use testkit::traps;
 
-/// The library and the model of record calls.
+/// The library and the model.
 const SIDES: Sides = Sides {
     library: &by_library,
     model: &by_model,
@@ -41,6 +41,26 @@ fn calls_on_directed_files() {
     let paper = Workings::paper();
     let counts = agreed(columns::compare_all(&subjects, &by_library, paper, 0));
     println!("{counts:?}, {} calls", counts.calls());
+}
+
+/// The longest lists on the first large columns: some are made, some refused.
+#[test]
+fn long_lists_on_large_columns() {
+    let seed = seed();
+    let is_large = |subject: &columns::Subject| {
+        let design = subject.model.simulator.design();
+        design.is_ok_and(|design| design.n >= 32 && design.m >= 8)
+    };
+    let mut counts = Counts::default();
+    for subject in columns::subjects(seed, 1)
+        .into_iter()
+        .filter(is_large)
+        .take(4)
+    {
+        counts += agreed(columns::compare_long_lists(&subject, SIDES, seed));
+    }
+    println!("seed {seed}: {counts:?}, {} calls", counts.calls());
+    assert!(counts.answers[0] > 0 && counts.answers[11] >= 4);
 }
 
 /// The library on the file in which every open pin is driven by the constant 1.

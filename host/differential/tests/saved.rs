@@ -3,10 +3,12 @@
 use std::path::Path;
 use std::process::{Command, Output};
 
+use calls::Change;
 use differential::calls::{by_library, Buffers, Call, Caller, Model};
 use differential::comparison::{replayed, Case, Difference, Sides};
 use differential::saved::{from_text, save, to_text};
 use differential::{columns, feeds, mutants, records};
+use model::layout::A;
 use model::Workings;
 use testkit::column::Column;
 use testkit::command::{assert_fails, assert_writes};
@@ -85,16 +87,25 @@ fn case_as_text() {
         inputs: Lent::bytes(&[]),
         values: Lent::bytes(&[0, 1]),
     };
-    let (table, word) = ((1 << 32) + 3, 10);
-    let case = Case {
-        call: Call::EditTable { table, word },
-        buffers: Buffers::of_column(column),
+    let odd = Change {
+        kind: 255,
+        number: u64::MAX,
+        value: 256,
     };
-    let lines = "call edit_table 4294967299 10\n\
+    let edits = [Change::input(0, 1), Change::table((1 << 32) + 3, 10), odd];
+    let case = Case {
+        call: Call::Edit,
+        buffers: Buffers {
+            edits: Lent::edits(&edits),
+            ..Buffers::of_column(column)
+        },
+    };
+    let lines = "call edit\n\
                  contents 0000000000000001 8000000000000000\n\
                  file 0102ff\n\
                  flops 5a\n\
-                 values 0001\n";
+                 values 0001\n\
+                 edits 0:0:1 1:100000003:a ff:ffffffffffffffff:100\n";
     assert_eq!(to_text(&case), lines);
     assert_eq!(from_text(lines), Ok(case));
 }
@@ -120,10 +131,12 @@ fn texts_that_are_no_case() {
         ("file 00\n", "no call"),
         ("call dance\n", "no such call: \"dance\""),
         ("call settle 1\n", "no such call: \"settle 1\""),
-        (
-            "call edit_input 1 256\n",
-            "no such call: \"edit_input 1 256\"",
-        ),
+        ("call edit 0:0:1\n", "no such call: \"edit 0:0:1\""),
+        ("call edit\nedits 0:0\n", "no edit: \"0:0\""),
+        ("call edit\nedits 0:0:1:1\n", "no edit: \"0:0:1:1\""),
+        ("call edit\nedits 100:0:1\n", "no edit: \"100:0:1\""),
+        ("call edit\nedits 0:0:1  0:0:1\n", "no edit: \"\""),
+        ("call edit\nedits 0:0:x\n", "no edit: \"0:0:x\""),
         ("call feed 256\n", "no such call: \"feed 256\""),
         ("call judge\ncall judge\n", "twice: \"call\""),
         ("call judge\nbooty 00\n", "no such buffer: \"booty\""),
@@ -161,6 +174,24 @@ fn replay_makes_the_call() {
     let case = format!("call settle\nfile {digits}\n");
     let lines = "call:    settle\nlibrary: refused 9 4\nmodel:   refused 9 4\nno difference\n";
     assert_writes(&replay("looped.case", case.as_bytes()), 0, lines);
+}
+
+/// Z with input 0 on A1 and contents A that pass it on: the input is set, and then the byte 2 is refused.
+#[test]
+fn replay_edits() {
+    let column = Column::zeros(1, 1).pin(0, "A1", 256);
+    let file = column.contents(0, A, 2).bytes();
+    let digits: String = file.iter().map(|byte| format!("{byte:02x}")).collect();
+    let words = "0000000000000002 0000000000000000 0000000000000000 0000000000000000";
+    let values = "00".repeat(32);
+    let case = format!(
+        "call edit\nfile {digits}\ncontents {words}\nflops 00\ninputs 00\nvalues {values}\nedits 0:0:0 0:0:1\n"
+    );
+    let lines = "call:    edit\nlibrary: done\nmodel:   done\nno difference\n";
+    assert_writes(&replay("edits.case", case.as_bytes()), 0, lines);
+    let case = case.replace("0:0:0 0:0:1", "0:0:1 0:0:2");
+    let lines = "call:    edit\nlibrary: refused 11 0\nmodel:   refused 11 0\nno difference\n";
+    assert_writes(&replay("bad-edit.case", case.as_bytes()), 0, lines);
 }
 
 /// The size record came, and now the three bytes of an end record.

@@ -7,6 +7,7 @@ mod decoding;
 mod edges;
 mod edits;
 pub mod feeds;
+mod lists;
 pub mod records;
 mod signals;
 
@@ -19,7 +20,13 @@ pub type Mutant = (&'static str, fn(&mut Workings));
 pub type WrongDecoder = (&'static str, fn(&mut Design));
 
 pub fn of_columns() -> Vec<Mutant> {
-    let families = [signals::all(), edges::all(), edits::all(), tests()];
+    let families = [
+        signals::all(),
+        edges::all(),
+        edits::all(),
+        lists::all(),
+        tests(),
+    ];
     families.into_iter().flatten().collect()
 }
 
