@@ -1,7 +1,8 @@
 //! The library's calls, and the second program's, on one file.
 
 use crate::columns::NAMED;
-use ::calls::{Answer, Verdict, STATE, STORE};
+use ::calls::{Answer, Change, Verdict, STATE, STORE};
+use model::edits::Edit;
 use model::{Simulator, Workings};
 use std::hint::black_box;
 
@@ -99,7 +100,7 @@ impl Bench {
         self.file.len()
     }
 
-    /// Calls the library. Edits change input 0 and table 0, each time to another value. A reader is fed the file and its end at once.
+    /// Calls the library. An edit alone changes input 0 or table 0, each time to another value. A reader is fed the file and its end at once.
     pub fn library(&mut self, call: Call) -> Answer {
         let Bench {
             file,
@@ -117,18 +118,46 @@ impl Bench {
             Call::Settle => ::calls::settle(file, contents, flops, inputs, values),
             Call::Clock => ::calls::clock(file, contents, flops, inputs, values),
             Call::EditInput => {
-                let byte = 1 - inputs[0];
-                ::calls::edit_input(file, contents, flops, inputs, values, 0, byte)
+                let edit = Change::input(0, 1 - inputs[0]);
+                ::calls::edit(file, contents, flops, inputs, values, &[edit])
             }
             Call::EditTable => {
-                let word = !contents[0];
-                ::calls::edit_table(file, contents, flops, inputs, values, 0, word)
+                let edit = Change::table(0, !contents[0]);
+                ::calls::edit(file, contents, flops, inputs, values, &[edit])
             }
             Call::PowerUp => ::calls::power_up(file, contents, flops),
             Call::ReadRecord => ::calls::read_record(record, n, m, body),
             Call::WriteRecord => ::calls::write_record(body, n, m, record),
             Call::Feed => heard(::calls::feed(&mut [0; STATE], store, file, 1)),
         }
+    }
+
+    /// A list of so many edits, of inputs and tables in turn from the first ones on, each to another value than it has.
+    pub fn edits(&self, count: usize) -> Vec<Change> {
+        let edit = |i: usize| match (i % 2, i / 2) {
+            (0, pair) => {
+                let input = pair % self.inputs.len();
+                Change::input(input, 1 - self.inputs[input])
+            }
+            (_, pair) => {
+                let table = pair % self.contents.len();
+                Change::table(table, !self.contents[table])
+            }
+        };
+        (0..count).map(edit).collect()
+    }
+
+    /// Makes the edits of a list in one call of the library.
+    pub fn edit(&mut self, edits: &[Change]) -> Answer {
+        let (contents, inputs) = (&mut self.contents, &mut self.inputs);
+        ::calls::edit(
+            &self.file,
+            contents,
+            &self.flops,
+            inputs,
+            &mut self.values,
+            edits,
+        )
     }
 
     /// Feeds the file to a fresh reader in runs of so many bytes, and ends it.
@@ -152,17 +181,27 @@ impl Bench {
             Call::Settle => column.settle(contents, flops, inputs, values),
             Call::Clock => column.clock(contents, flops, inputs, values),
             Call::EditInput => {
-                let byte = 1 - inputs[0];
-                column.edit_input(contents, flops, inputs, values, 0, byte)
+                let edit = one_edit(0, (1 - inputs[0]).into());
+                column.edit(contents, flops, inputs, values, &[edit])
             }
             Call::EditTable => {
-                let word = !contents[0];
-                column.edit_table(contents, flops, inputs, values, 0, word)
+                let edit = one_edit(1, !contents[0]);
+                column.edit(contents, flops, inputs, values, &[edit])
             }
             Call::PowerUp => column.power_up(contents, flops),
             _ => panic!("the second program has no call {call:?}"),
         };
         answer.is_ok()
+    }
+}
+
+/// An edit of the second program, of input 0 or table 0.
+fn one_edit(kind: u8, value: u64) -> Edit {
+    let number = 0;
+    Edit {
+        kind,
+        number,
+        value,
     }
 }
 
@@ -175,6 +214,14 @@ fn heard(verdict: Option<Verdict>) -> Answer {
 pub fn on_library(mut bench: Bench, call: Call) -> Box<dyn FnMut()> {
     Box::new(move || {
         let _ = black_box(bench.library(call));
+    })
+}
+
+/// A call of the library with a list of so many edits, to be timed. The same list each time: to set what is there is a change as well.
+pub fn on_list(mut bench: Bench, count: usize) -> Box<dyn FnMut()> {
+    let edits = bench.edits(count);
+    Box::new(move || {
+        let _ = black_box(bench.edit(&edits));
     })
 }
 

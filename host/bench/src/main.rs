@@ -1,7 +1,7 @@
 //! How long each call of the library takes on columns of 1 to 64 slices, and how much stack. Nothing here passes or fails.
 //! Given a call and a column, makes that call once, for a profiler.
 
-use bench::calls::{on_library, on_model, on_runs, Bench, Call};
+use bench::calls::{on_library, on_list, on_model, on_runs, Bench, Call};
 use bench::columns::{self, NAMED};
 use bench::report::{heading, line};
 use bench::stack::depth;
@@ -11,6 +11,8 @@ use std::io::{self, stdout, Write};
 use std::process::ExitCode;
 
 const SIZES: [usize; 7] = [1, 2, 4, 8, 16, 32, 64];
+/// The lengths of lists of edits.
+const LISTS: [usize; 4] = [1, 16, 64, 256];
 /// The sizes of columns that are fed byte by byte.
 const FED: [usize; 3] = [16, 32, 64];
 /// The lengths of runs in which a file is fed.
@@ -43,6 +45,8 @@ fn report(out: &mut impl Write) -> io::Result<()> {
     full_column(out, "irregular")?;
     judged_files(out)?;
     growth(out)?;
+    lists(out, "deep")?;
+    lists(out, "irregular")?;
     fed(out, "deep")?;
     fed(out, "irregular")?;
     fed_growth(out)?;
@@ -129,6 +133,25 @@ fn growth(out: &mut impl Write) -> io::Result<()> {
         let first = SIZES.len() * k;
         let growth = times.ratio(first + SIZES.len() - 1, first);
         line(out, call.name(), growth.scaled(1.0 / 64.0), 2, "")?;
+    }
+    Ok(())
+}
+
+/// Lists of edits on a full column, each in one call, beside a list of one.
+fn lists(out: &mut impl Write, name: &str) -> io::Result<()> {
+    let bench = Bench::named(name);
+    let timed = LISTS.map(|count| on_list(bench.clone(), count));
+    let times = Times::of(timed.into_iter().collect());
+    let names = LISTS.map(|count| format!("edits in one call: {count}"));
+    writeln!(out, "\n{name}, 64 slices: microseconds a list of edits")?;
+    for (i, list) in names.iter().enumerate() {
+        let edit = times.call(i).median / LISTS[i] as f64;
+        let note = format!("{edit:.1} us an edit");
+        line(out, list, times.call(i), 1, &note)?;
+    }
+    writeln!(out, "times one edit")?;
+    for (i, list) in names.iter().enumerate().skip(1) {
+        line(out, list, times.ratio(i, 0), 2, "")?;
     }
     Ok(())
 }

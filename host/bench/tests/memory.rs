@@ -22,6 +22,21 @@ fn no_call_uses_more_than_256_kb_of_stack() {
     }
 }
 
+/// The same for lists of edits.
+#[test]
+fn no_list_uses_more_than_256_kb_of_stack() {
+    for (name, column) in NAMED {
+        for count in [0, 1, 256, 257] {
+            let mut bench = Bench::new(column(64).bytes());
+            let edits = bench.edits(count);
+            let bytes = depth(|| {
+                let _ = black_box(bench.edit(&edits));
+            });
+            assert!(bytes <= STACK_LIMIT, "{name}, {count}: {bytes} bytes");
+        }
+    }
+}
+
 /// The same for a file that comes in runs.
 #[test]
 fn no_feeding_uses_more_than_256_kb_of_stack() {
