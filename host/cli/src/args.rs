@@ -161,7 +161,7 @@ impl Run {
 }
 
 const RUN: &str =
-    "A row has the signals settled before that clock's edge; clock 0 is the first after power-up. At each clock the line of the inputs is taken first, then the edits are made in their order. An input keeps what it was set to until another line or edit sets it. docs/TEXT.md has the forms of inputs and edits.
+    "A row has the signals settled before that clock's edge; clock 0 is the first after power-up. At each clock the line of the inputs is taken first, then the edits are made in their order, at most 256 before one clock. An input keeps what it was set to until another line or edit sets it. docs/TEXT.md has the forms of inputs and edits.
 
   quagmuffin run examples/accumulator.txt --inputs examples/accumulator.inputs
   quagmuffin run FILE --clocks 40 --watch 's0.*Q,in0' --edit '20: in 0 = 1'

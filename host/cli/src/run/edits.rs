@@ -1,7 +1,7 @@
 //! Edits before clocks of a run.
 
 use model::layout::LETTERS;
-use quagmuffin::{Answer, Column};
+use quagmuffin::{Change, Column, MOST_EDITS};
 use text::contents;
 use text::lines::{lines, Line, Mistake};
 use text::names::table_named;
@@ -9,38 +9,20 @@ use text::parse::input;
 use text::Names;
 
 use crate::args::Run;
-use crate::failure::{name, Outcome};
+use crate::failure::{name, Failure, Outcome};
 use crate::source::{self, LONGEST_TEXT};
 
-/// What an edit changes, and to what.
-#[derive(Clone, Copy, Debug, PartialEq)]
-enum Change {
-    Input(usize, u8),
-    Table(usize, u64),
-}
-
-/// A change before a clock.
-#[derive(Clone, Copy, Debug, PartialEq)]
-pub struct Edit {
-    clock: usize,
-    change: Change,
-}
-
-impl Edit {
-    /// Makes it by the library's call.
-    pub fn make(&self, column: &mut Column) -> Answer {
-        match self.change {
-            Change::Input(input, byte) => column.edit_input(input, byte),
-            Change::Table(table, word) => column.edit_table(table, word),
-        }
-    }
-}
+/// A change and the clock that it comes before.
+type Edit = (usize, Change);
 
 /// The edits of a run, by their clocks.
-pub struct Edits(Vec<Edit>);
+pub struct Edits {
+    clocks: Vec<usize>,
+    changes: Vec<Change>,
+}
 
 impl Edits {
-    /// Those of the words, then those of the file.
+    /// Those of the words, then those of the file. All before one clock go to the library in one call, so there can't be more than that takes.
     pub fn read(words: &Run, names: &Names, column: &Column, clocks: usize) -> Outcome<Edits> {
         let reader = Reader {
             names,
@@ -55,16 +37,31 @@ impl Edits {
             let text = source::any_text(path, LONGEST_TEXT)?;
             edits.extend(reader.edits(&name(path), &text)?);
         }
-        edits.sort_by_key(|edit| edit.clock);
-        Ok(Edits(edits))
+        edits.sort_by_key(|&(clock, _)| clock);
+        let (clocks, changes) = edits.into_iter().unzip();
+        let edits = Edits { clocks, changes };
+        match edits
+            .clocks
+            .iter()
+            .find(|&&clock| edits.before(clock).len() > MOST_EDITS)
+        {
+            Some(&clock) => Err(too_many(clock, edits.before(clock).len())),
+            None => Ok(edits),
+        }
     }
 
     /// The edits before a clock, in their order.
-    pub fn before(&self, clock: usize) -> &[Edit] {
-        let start = self.0.partition_point(|edit| edit.clock < clock);
-        let end = self.0.partition_point(|edit| edit.clock <= clock);
-        &self.0[start..end]
+    pub fn before(&self, clock: usize) -> &[Change] {
+        let start = self.clocks.partition_point(|&other| other < clock);
+        let end = self.clocks.partition_point(|&other| other <= clock);
+        &self.changes[start..end]
     }
+}
+
+fn too_many(clock: usize, count: usize) -> Failure {
+    Failure::of(format!(
+        "{count} edits before clock {clock}: at most {MOST_EDITS} are made before one clock"
+    ))
 }
 
 /// What an edit can speak of: the names of the text, the column's inputs and tables, the clocks of the run.
@@ -105,20 +102,21 @@ impl Reader<'_> {
                 );
                 let input = input(line, self.names, size.m, &what)?;
                 due(line, "=")?;
-                Change::Input(input, line.number(1)? as u8)
+                Change::input(input, line.number(1)? as u8)
             }
         };
         line.ended()?;
-        Ok(Edit { clock, change })
+        Ok((clock, change))
     }
 
     /// New contents. Those that a table in shift mode can't hold are tried on a copy of the column: what the library refuses is told before the run.
     fn table(&self, line: &mut Line, table: usize) -> Result<Change, Mistake> {
         let here = line.mistake("refused 11 0: in shift mode a table holds 32 bits");
         let word = contents::parse(line, table % LETTERS.len())?;
-        let tried = || self.column.clone().edit_table(table, word);
+        let change = Change::table(table, word);
+        let tried = || self.column.clone().edit(&[change]);
         match word >> 32 == 0 || tried().is_ok() {
-            true => Ok(Change::Table(table, word)),
+            true => Ok(change),
             false => Err(here),
         }
     }

@@ -10,7 +10,7 @@ mod watch;
 use std::io::{stdout, IsTerminal};
 use std::path::Path;
 
-use quagmuffin::{Accepted, Answer, Column, Refused};
+use quagmuffin::{Accepted, Answer, Change, Column, Refused};
 
 use crate::args::Run;
 use crate::failure::{Failure, Outcome};
@@ -18,7 +18,7 @@ use crate::output::{Sink, Used};
 use crate::progress::Progress;
 use crate::source::{self, Design};
 use csv::Csv;
-use edits::{Edit, Edits};
+use edits::Edits;
 use inputs::Inputs;
 use table::Table;
 use vcd::Vcd;
@@ -54,10 +54,10 @@ pub fn run(words: &Run) -> Outcome<u8> {
     Ok(0)
 }
 
-/// The edits before a clock, and the clock, which settles the values itself.
-fn clocked(column: &mut Column, edits: &[Edit]) -> Answer {
-    for edit in edits {
-        edit.make(column)?;
+/// The edits before a clock, in one call where there are any, and the clock, which settles the values itself.
+fn clocked(column: &mut Column, edits: &[Change]) -> Answer {
+    if !edits.is_empty() {
+        column.edit(edits)?;
     }
     column.clock()
 }

@@ -122,6 +122,26 @@ fn wrong_edits() {
     assert_marks(&folder.run(&["run", "shift", "--edits", "edits"]), said);
 }
 
+/// Before one clock 256 edits are made, in their order; one more is told before the first row, wherever it stands.
+#[test]
+fn most_edits_before_a_clock() {
+    let folder = folder("most edits");
+    let lines = |count: usize| "3: in 0 = 1\n3: in 0 = 0\n".repeat(count / 2);
+    folder.put("edits", lines(256) + "2: in 1 = 1\n4: in 0 = 1\n");
+    let words = [
+        "run", "file", "--clocks", "5", "--watch", "in0,in1", "--edits", "edits",
+    ];
+    let run = |more: &[&str]| folder.run(&[&words[..], more].concat());
+    let rows = "clock,in0,in1\n0,0,0\n1,0,0\n2,0,1\n3,0,1\n4,1,1\n";
+    assert_writes(&run(&["--csv", "-"]), 0, rows);
+    let said = "quagmuffin: 257 edits before clock 3: at most 256 are made before one clock\n";
+    assert_says(&run(&["--edit", "3: in 1 = 1", "--csv", "out"]), 2, said);
+    assert!(!folder.path("out").exists(), "nothing is written");
+    folder.put("edits", "4: in 0 = 1\n".repeat(300) + &lines(300));
+    let said = "quagmuffin: 300 edits before clock 3: at most 256 are made before one clock\n";
+    assert_says(&run(&[]), 2, said);
+}
+
 /// It says where a mistake is, shows the line and marks it.
 pub fn assert_marks(output: &std::process::Output, start: &str) {
     let said = String::from_utf8_lossy(&output.stderr).into_owned();
