@@ -1,6 +1,6 @@
 //! Random files, records and calls: the library's answers and buffers against the model's.
 
-use calls::{read_record, write_record};
+use calls::{read_record, write_record, MOST_EDITS};
 use differential::calls::{by_library, Answer, Buffers, Call, Model};
 use differential::comparison::Sides;
 use differential::saved::agreed;
@@ -11,6 +11,7 @@ use model::Workings;
 use testkit::column::pull_up;
 use testkit::random::{seed, times};
 use testkit::traps;
+use workbench::lent::Lent;
 
 /// The library and the model.
 const SIDES: Sides = Sides {
@@ -61,6 +62,41 @@ fn long_lists_on_large_columns() {
     }
     println!("seed {seed}: {counts:?}, {} calls", counts.calls());
     assert!(counts.answers[0] > 0 && counts.answers[11] >= 4);
+}
+
+/// The library with a call for each edit of a list, on copies of the buffers that are kept where all were made.
+fn one_by_one(call: Call, buffers: &mut Buffers) -> Answer {
+    if call != Call::Edit {
+        return by_library(call, buffers);
+    }
+    let list = buffers.edits.get();
+    let lists = [&[][..]].into_iter().chain(list.chunks(1));
+    let mut copies = buffers.clone();
+    for one in lists {
+        copies.edits = Lent::edits(one);
+        let answer = by_library(call, &mut copies);
+        if answer != Answer::Done {
+            return answer;
+        }
+    }
+    if list.len() > MOST_EDITS {
+        return Answer::Refused {
+            number: 11,
+            place: 0,
+        };
+    }
+    buffers.column = copies.column;
+    Answer::Done
+}
+
+/// A list answers and leaves what its edits do one after another.
+#[test]
+fn lists_are_as_single_edits() {
+    let seed = seed();
+    let sides = Sides::new(&by_library, &one_by_one);
+    for subject in columns::subjects(seed, 1) {
+        agreed(columns::compare(&subject, sides, seed));
+    }
 }
 
 /// The library on the file in which every open pin is driven by the constant 1.

@@ -9,7 +9,8 @@ use model::{Design, Workings};
 use super::Mutant;
 
 pub fn all() -> Vec<Mutant> {
-    [lengths(), tests(), numbers(), order(), marks()].concat()
+    let families = [lengths(), empty(), tests(), numbers(), order(), marks()];
+    families.concat()
 }
 
 /// How many edits a list may have.
@@ -32,6 +33,12 @@ fn lengths() -> Vec<Mutant> {
                 edit(w, design, lent, edits)
             }
         }),
+    ]
+}
+
+/// What an empty list does.
+fn empty() -> Vec<Mutant> {
+    vec![
         ("an empty list is refused", |w| {
             w.edit = |w, design, lent, edits| {
                 passed(w, design, lent, edits)?;
@@ -61,23 +68,21 @@ fn lengths() -> Vec<Mutant> {
 fn tests() -> Vec<Mutant> {
     vec![
         ("edits are made as they are tested", |w| {
-            w.edit = |w, design, lent, edits| {
-                require(edits.len() <= 256, 11)?;
-                let each = |one| edit(w, design, lent, &[one]);
-                edits.iter().copied().try_for_each(each)
-            }
+            w.edit = made_as_tested
         }),
         ("inputs and contents are set as edits are tested", |w| {
             w.edit = set_as_tested
         }),
         ("a bad edit is passed over", |w| {
             w.edit = |w, design, lent, edits| {
-                let good = |one: &Edit| changed(w, design, one).is_ok();
-                edit_some(w, design, lent, edits, good)
+                edit_some(w, design, lent, edits, |one| {
+                    changed(w, design, one).is_ok()
+                })
             }
         }),
         ("edits after a bad one are left out", |w| {
             w.edit = |w, design, lent, edits| {
+                tested_around(w, design, lent, edits)?;
                 let good = |one: &&Edit| changed(w, design, one).is_ok();
                 let count = edits.iter().take_while(good).count();
                 edit(w, design, lent, &edits[..count])
@@ -91,10 +96,7 @@ fn tests() -> Vec<Mutant> {
             }
         }),
         ("only the last edit of an input or a table is tested", |w| {
-            w.edit = |w, design, lent, edits| {
-                require(edits.len() <= 256, 11)?;
-                edit(w, design, lent, &last_of_each(edits))
-            }
+            w.edit = only_last_tested
         }),
     ]
 }
@@ -115,10 +117,7 @@ fn numbers() -> Vec<Mutant> {
             }
         }),
         ("an edit of a kind above 1 is passed over", |w| {
-            w.edit = |w, design, lent, edits| {
-                require(edits.len() <= 256, 11)?;
-                edit_some(w, design, lent, edits, |one| one.kind < 2)
-            }
+            w.edit = |w, design, lent, edits| edit_some(w, design, lent, edits, |one| one.kind < 2)
         }),
         ("an input's value is cut to a byte", |w| {
             w.edit = |w, design, lent, edits| {
@@ -168,34 +167,11 @@ fn marks() -> Vec<Mutant> {
             w.edit = |w, design, lent, edits| marks_of(w, design, lent, edits, |list| list.first())
         }),
         ("the table is settled between edits", |w| {
-            w.edit = |w, design, lent, edits| {
-                for (i, change) in passed(w, design, lent, edits)?.into_iter().enumerate() {
-                    if i > 0 {
-                        settle(w, design, lent);
-                    }
-                    make(w, design, lent, change);
-                }
-                Ok(())
-            }
+            w.edit = settled_between
         }),
-        ("setting what is there is no change", |w| {
-            w.edit = |w, design, lent, edits| {
-                for change in passed(w, design, lent, edits)? {
-                    if !is_there(lent, change) {
-                        make(w, design, lent, change);
-                    }
-                }
-                Ok(())
-            }
-        }),
+        ("setting what is there is no change", |w| w.edit = unchanged),
         ("an edit of a table recomputes for the input", |w| {
-            w.edit = |w, design, lent, edits| {
-                for change in passed(w, design, lent, edits)? {
-                    lent.set(change);
-                    recompute(w, design, lent, &reached_as_input(w, design, change));
-                }
-                Ok(())
-            }
+            w.edit = table_as_input
         }),
     ]
 }
@@ -203,6 +179,12 @@ fn marks() -> Vec<Mutant> {
 fn settle(w: &Workings, design: &Design, lent: &mut Editable) {
     let values = settled(w, design, lent.state());
     lent.values.copy_from_slice(&values);
+}
+
+/// All that is tested but the edits themselves.
+fn tested_around(w: &Workings, design: &Design, lent: &Editable, edits: &[Edit]) -> Answer {
+    passed(w, design, lent, &[])?;
+    require(edits.len() <= w.most_edits, 11)
 }
 
 /// Makes the edits as a mistake takes them.
@@ -226,25 +208,35 @@ fn edit_some(
     edits: &[Edit],
     made: impl Fn(&Edit) -> bool,
 ) -> Answer {
+    tested_around(w, design, lent, edits)?;
     let edits: Vec<Edit> = edits.iter().copied().filter(made).collect();
     edit(w, design, lent, &edits)
 }
 
+fn made_as_tested(w: &Workings, design: &Design, lent: &mut Editable, edits: &[Edit]) -> Answer {
+    tested_around(w, design, lent, edits)?;
+    for one in edits {
+        edit(w, design, lent, &[*one])?;
+    }
+    Ok(())
+}
+
 /// Values are left alone up to the end, inputs and contents are not.
 fn set_as_tested(w: &Workings, design: &Design, lent: &mut Editable, edits: &[Edit]) -> Answer {
-    passed(w, design, lent, &[])?;
-    require(edits.len() <= 256, 11)?;
+    tested_around(w, design, lent, edits)?;
     for one in edits {
         lent.set(changed(w, design, one)?);
     }
     edit(w, design, lent, edits)
 }
 
-/// Without those that a later one of the same input or table replaces.
-fn last_of_each(edits: &[Edit]) -> Vec<Edit> {
+/// Leaves those out that a later one of the same input or table replaces.
+fn only_last_tested(w: &Workings, design: &Design, lent: &mut Editable, edits: &[Edit]) -> Answer {
+    tested_around(w, design, lent, edits)?;
     let same = |a: &Edit, b: &Edit| (a.kind, a.number) == (b.kind, b.number);
     let is_last = |&i: &usize| !edits[i + 1..].iter().any(|later| same(later, &edits[i]));
-    (0..edits.len()).filter(is_last).map(|i| edits[i]).collect()
+    let last: Vec<Edit> = (0..edits.len()).filter(is_last).map(|i| edits[i]).collect();
+    edit(w, design, lent, &last)
 }
 
 /// Of edits of one kind only the first of a number is made.
@@ -282,18 +274,41 @@ fn marks_of(
     Ok(())
 }
 
-fn is_there(lent: &Editable, change: Change) -> bool {
-    match change {
-        Change::Input { input, byte } => lent.inputs[input] == byte,
-        Change::Table { table, word } => lent.contents[table] == word,
+/// Settles the whole table before each edit but the first.
+fn settled_between(w: &Workings, design: &Design, lent: &mut Editable, edits: &[Edit]) -> Answer {
+    for (i, change) in passed(w, design, lent, edits)?.into_iter().enumerate() {
+        if i > 0 {
+            settle(w, design, lent);
+        }
+        make(w, design, lent, change);
     }
+    Ok(())
 }
 
-/// What a change reaches, a table taken for the input of its number.
-fn reached_as_input(w: &Workings, design: &Design, change: Change) -> Vec<bool> {
-    let input = match change {
-        Change::Input { input, .. } => input,
-        Change::Table { table, .. } => table,
-    };
-    first_reached(w, design, Change::Input { input, byte: 0 })
+/// Passes over what is there already.
+fn unchanged(w: &Workings, design: &Design, lent: &mut Editable, edits: &[Edit]) -> Answer {
+    for change in passed(w, design, lent, edits)? {
+        let is_there = match change {
+            Change::Input { input, byte } => lent.inputs[input] == byte,
+            Change::Table { table, word } => lent.contents[table] == word,
+        };
+        if !is_there {
+            make(w, design, lent, change);
+        }
+    }
+    Ok(())
+}
+
+/// Recomputes what depends on the input of a table's number.
+fn table_as_input(w: &Workings, design: &Design, lent: &mut Editable, edits: &[Edit]) -> Answer {
+    for change in passed(w, design, lent, edits)? {
+        lent.set(change);
+        let input = match change {
+            Change::Input { input, .. } => input,
+            Change::Table { table, .. } => table,
+        };
+        let first = first_reached(w, design, Change::Input { input, byte: 0 });
+        recompute(w, design, lent, &first);
+    }
+    Ok(())
 }
