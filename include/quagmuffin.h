@@ -12,8 +12,8 @@
  *   - a buffer that is not const overlaps no other of the call
  *   - 61 KB of stack are left
  *
- * Nothing else is asked: lengths, bytes, words and numbers may be any, and are judged. For a file of n slices and m outside inputs the
- * buffers are:
+ * Nothing else is asked: lengths, bytes, words, edits and numbers may be any, and are judged. For a file of n slices and m outside inputs
+ * the buffers are:
  *
  *   file       any bytes, of any length
  *   contents   4n words, the contents of table 4s + letter (letters A to D count 0 to 3)

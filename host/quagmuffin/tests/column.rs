@@ -25,8 +25,10 @@ fn passes_input() -> Column {
     accepted(column.contents(0, A, 2).bytes())
 }
 
+type Call = fn(&mut Column) -> Answer;
+
 /// The call refuses 11 at place 0, and changes nothing.
-fn refuses_11(column: &Column, call: fn(&mut Column) -> Answer, why: &str) {
+fn refuses_11(column: &Column, call: Call, why: &str) {
     let mut called = column.clone();
     let refused = Refused {
         number: 11,
@@ -213,7 +215,7 @@ fn no_more_than_256_edits() {
 #[test]
 fn an_edit_out_of_range() {
     let column = passes_input();
-    let edits: [(&str, fn(&mut Column) -> Answer); 4] = [
+    let edits: [(&str, Call); 4] = [
         ("input m", |column| column.edit(&[Change::input(1, 1)])),
         ("input byte 2", |column| column.edit(&[Change::input(0, 2)])),
         ("table 4n", |column| column.edit(&[Change::table(4, 1)])),
@@ -225,7 +227,7 @@ fn an_edit_out_of_range() {
         refuses_11(&column, edit, why);
     }
     let shifts = accepted(z_slicem().set(0, MODE + D, 2).bytes());
-    let edit: fn(&mut Column) -> Answer = |column| column.edit(&[Change::table(D, 1 << 32)]);
+    let edit: Call = |column| column.edit(&[Change::table(D, 1 << 32)]);
     refuses_11(&shifts, edit, "bit 32 in shift mode");
 }
 

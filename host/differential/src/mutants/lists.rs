@@ -121,9 +121,10 @@ fn numbers() -> Vec<Mutant> {
         }),
         ("an input's value is cut to a byte", |w| {
             w.edit = |w, design, lent, edits| {
-                edit_as(w, design, lent, edits, |one| match one.kind {
-                    0 => one.value &= 255,
-                    _ => (),
+                edit_as(w, design, lent, edits, |one| {
+                    if one.kind == 0 {
+                        one.value &= 255
+                    }
                 })
             }
         }),
