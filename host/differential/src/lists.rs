@@ -20,11 +20,11 @@ const NO_BYTES: [u64; 10] = [
     128,
     254,
     255,
+    u64::MAX,
     256,
     257,
     1 << 32,
     (1 << 63) + 1,
-    u64::MAX,
 ];
 
 /// The model makes edits one by one: only columns of so few slices get the longest lists.
@@ -68,7 +68,7 @@ fn of_table(rng: &mut Prng, design: &Design, bench: &Workbench) -> Vec<Change> {
     vec![Change::table(table, word)]
 }
 
-/// Edits of any kind, none of them included.
+/// Any number of edits of any kind, also none.
 fn of_any(rng: &mut Prng, design: &Design, bench: &Workbench) -> Vec<Change> {
     let length = match rng.below(10) {
         0 => 0,

@@ -40,12 +40,10 @@ impl Edits {
         edits.sort_by_key(|&(clock, _)| clock);
         let (clocks, changes) = edits.into_iter().unzip();
         let edits = Edits { clocks, changes };
-        match edits
-            .clocks
-            .iter()
-            .find(|&&clock| edits.before(clock).len() > MOST_EDITS)
-        {
-            Some(&clock) => Err(too_many(clock, edits.before(clock).len())),
+        let counted = |&clock: &usize| (clock, edits.before(clock).len());
+        let mut counts = edits.clocks.iter().map(counted);
+        match counts.find(|&(_, count)| count > MOST_EDITS) {
+            Some((clock, count)) => Err(too_many(clock, count)),
             None => Ok(edits),
         }
     }
