@@ -1,128 +1,137 @@
--- What the promises of the edits come to: each settles its answer and every byte it leaves; an edited table that was settled is the table settled
--- afresh; and what an edit leaves is good for the next call. Assumes nothing.
-use mathlib.Core.Path.{_≡_, _∙_, sym}
-use mathlib.Core.Bool.{Bool, false}
-use mathlib.Core.List.{List}
+-- What the promise of the edit call comes to: it settles its answer and every byte it leaves; an edited table that was settled is the table settled
+-- afresh; the call leaves what its edits leave one after another; and that is good for the next call. Assumes nothing.
+use mathlib.Core.Path.{_≡_, _∙_, sym, subst⁻¹}
+use mathlib.Core.Bool.{false}
+use mathlib.Core.List.{List, [], _∷_}
 use Prim.Native.Nat.{ℕ, _*_}
 use native.Mathlib.Omega.{arith}
 use borrow.Author.Tests.{ltb-false}
 use lib.Dec.{leb, ltb}
 use lib.ListN.{length, set, length-set}
-use Rattle.netlist.specs.Rule.{touchesInput, touchesTable}
-use Rattle.netlist.specs.declared.Gate.{Gate}
-use Rattle.netlist.proofs.Bits.{edited-bits}
-use Rattle.netlist.proofs.Net.{one-edited, input-edited, contents-edited}
+use Rattle.netlist.specs.Rule.{Env}
+use Rattle.netlist.specs.Settle.{Settled}
+use Rattle.netlist.specs.Changes.{Change, OfInput, OfContents, changed, changedBy, touchesAny, Steps, Replaced}
 use Rattle.netlist.specs.Table.{signalCount}
+use Rattle.netlist.proofs.Bits.{edited-bits}
+use Rattle.netlist.proofs.Composing.{none-edited, steps-edited}
+use Rattle.netlist.proofs.Replacing.{changes-replace}
+use Rattle.netlist.proofs.Net.{one-edited, changes-edited, one-by-one}
 use Rattle.slicefile.specs.declared.Answer.{Answer}
 use Rattle.slicefile.specs.declared.Answer.the-variants.{Done}
-use Rattle.slicefile.proofs.Tests.{or-right}
-use Rattle.column.specs.Clock.{stateOf, State, envOf, SettledFor, OnlySettled}
+use Rattle.slicefile.proofs.Tests.{or-left, or-right}
+use Rattle.editlist.specs.Listed.{editLimit}
+use Rattle.editlist.specs.declared.Edit.{Edit}
+use Rattle.column.specs.Clock.{stateOf, SettledFor, OnlySettled}
 use Rattle.column.specs.File.{gateAt}
 use Rattle.column.specs.Judge.{Judged}
 use Rattle.column.specs.declared.Verdict.the-variants.{Accepted}
 use Rattle.column.proofs.Tables.{records-sound, closed, ordered, settled-only}
 use Rattle.column.proofs.Verdicts.{accepted-free}
-use Rattle.buffers.specs.Buffers.{badWord, editRefusal, badInput, badTable, GoodState, GoodInputs, GoodValues}
+use Rattle.buffers.specs.Buffers.{badWord, badTable, GoodState, GoodInputs, GoodValues}
 use Rattle.buffers.proofs.Good.{bytes-good, good-bytes, set-bytes, set-words, state-good, edit-good, edit-tells}
 use Rattle.buffers.proofs.Lengths.{state-lengths, edit-lengths, edit-argument}
-use Rattle.calls.specs.Calls.{done}
+use Rattle.calls.specs.Calls.{judged, refused, done}
 use Rattle.calls.proofs.Demands.{agree, done-there, not-refused}
-use Rattle.edits.specs.Edits.{EditedFor, InputEdited, TableEdited}
+use Rattle.edits.specs.Edits.{changeOf, changesOf, badChange, badEdit, anyBad, badEdits, stateIn, editsRefusal, EditedFor, EditsMade}
 
-module _ (file : List ℕ) {n m : ℕ} (j : Judged file (Accepted n m)) where
-  edited-once : (touches : Gate → Bool) (st : State) (inputs old new new′ : List ℕ) → length old ≡ signalCount n → EditedFor file touches st inputs old new n
-      → EditedFor file touches st inputs old new′ n → new ≡ new′
-  edited-once touches st inputs old new new′ size d d′ =
-      one-edited (gateAt file) (signalCount n) (closed file j) (accepted-free file j) (envOf st inputs) (λ x. touches (gateAt file x)) old new new′ size d d′
+module _ (file : List ℕ) {n m : ℕ} (j : Judged file (Accepted n m)) (cs : List Change) where
+  edited-once : (after : Env) (old new new′ : List ℕ) → length old ≡ signalCount n → EditedFor file cs after old new n → EditedFor file cs after old new′ n → new ≡ new′
+  edited-once after old new new′ size d d′ =
+      one-edited (gateAt file) (signalCount n) (closed file j) (accepted-free file j) after (λ x. touchesAny cs (gateAt file x)) old new new′ size d d′
 
-pub input-edit-unique : (file : List ℕ) (st : State) (input byte : ℕ) (inputs left left′ old new new′ : List ℕ) {r r′ : Answer}
-    → InputEdited file st input byte inputs left old new r → InputEdited file st input byte inputs left′ old new′ r′ → (r ≡ r′) × ((left ≡ left′) × (new ≡ new′))
-input-edit-unique file st input byte inputs left left′ old new new′ c c′ =
-    agree file (λ n m. editRefusal (badInput m input byte) file st inputs old n m) c c′ (λ s t. (s .0 ∙ sym (t .0), s .1 ∙ sym (t .1)))
+  changes-settle :
+      (before after : Env) (old new : List ℕ) → after ≡ changedBy before cs → EditedFor file cs after old new n → SettledFor file (stateIn before) (before .inputs) old
+      → Settled (gateAt file) (signalCount n) after new
+  changes-settle before after old new e d s =
+      rw e (changes-edited (gateAt file) (signalCount n) (closed file j) (accepted-free file j) before cs old new (rw (records-sound file j .count) at s) (rw e at d))
+
+pub edits-unique : (file : List ℕ) (before after after′ : Env) (es : List Edit) (old new new′ : List ℕ) {r r′ : Answer}
+    → EditsMade file before after es old new r → EditsMade file before after′ es old new′ r′ → (r ≡ r′) × ((after ≡ after′) × (new ≡ new′))
+edits-unique file before after after′ es old new new′ c c′ =
+    agree file (editsRefusal file before es old) c c′ (λ s t. (s .0 ∙ sym (t .0), s .1 ∙ sym (t .1)))
     (λ n m j z d d′.
-    let same : left ≡ left′ = d .0 ∙ sym (d′ .0) in
-    let size = edit-lengths (badInput m input byte) file st inputs old n m z .values in
-    (same, edited-once file j (touchesInput input) st left old new new′ size (d .1) (rw (← same) at (d′ .1))))
+    let same : after ≡ after′ = d .0 ∙ sym (d′ .0) in
+    let size = edit-lengths _ file (stateIn before) (before .inputs) old n m z .values in
+    (same, edited-once file j (changesOf es) after old new new′ size (d .1) (rw (← same) at (d′ .1))))
 
-pub table-edit-unique : (file contents left left′ flops : List ℕ) (table word : ℕ) (inputs old new new′ : List ℕ) {r r′ : Answer}
-    → TableEdited file contents left flops table word inputs old new r → TableEdited file contents left′ flops table word inputs old new′ r′
-    → (r ≡ r′) × ((left ≡ left′) × (new ≡ new′))
-table-edit-unique file contents left left′ flops table word inputs old new new′ c c′ =
-    agree file (λ n m. editRefusal (badTable file n table word) file (stateOf contents flops) inputs old n m) c c′ (λ s t. (s .0 ∙ sym (t .0), s .1 ∙ sym (t .1)))
-    (λ n m j z d d′.
-    let same : left ≡ left′ = d .0 ∙ sym (d′ .0) in
-    let size = edit-lengths (badTable file n table word) file (stateOf contents flops) inputs old n m z .values in
-    (same, edited-once file j (touchesTable table) (stateOf left flops) inputs old new new′ size (d .1) (rw (← same) at (d′ .1))))
+-- ---- demand 3: "if the table was settled before .. each byte of the table as left equals that of the table settled afresh after all changes of the
+-- list, in their order". That what depends on no change keeps its byte, and what does on any holds its rule, on any table, is `Edited` itself
+pub edits-settle : (file : List ℕ) (before after : Env) (es : List Edit) (old new : List ℕ) → EditsMade file before after es old new Done
+    → SettledFor file (stateIn before) (before .inputs) old → OnlySettled file (stateIn after) (after .inputs) new
+edits-settle file before after es old new (done j z d) s =
+    settled-only file j (stateIn after) (after .inputs) new (changes-settle file j (changesOf es) before after old new (d .0) (d .1) s)
 
--- ---- demand 3: "if the table was settled before .. each byte of the table as left equals that of the table settled afresh after the change". That what
--- doesn't depend on the change keeps its byte, and what does holds its rule, on any table, is `Edited` itself
+-- "the inputs and contents are the old ones with only the named byte or word replaced", where one is named twice by the last edit of it
+pub edits-replace : (file : List ℕ) (before after : Env) (es : List Edit) (old new : List ℕ) → EditsMade file before after es old new Done
+    → Replaced before (changesOf es) after
+edits-replace file before after es old new (done j z d) = rw (d .0) (changes-replace before (changesOf es))
 
-module _ (file : List ℕ) {n m : ℕ} (j : Judged file (Accepted n m)) where
-  input-settles : (st : State) (input byte : ℕ) (inputs left old new : List ℕ) → left ≡ set inputs input byte → EditedFor file (touchesInput input) st left old new n
-      → SettledFor file st inputs old → OnlySettled file st left new
-  input-settles st input byte inputs left old new e d before =
-      let s = input-edited (gateAt file) (signalCount n) (closed file j) (accepted-free file j) (envOf st inputs) input byte old new (rw (records-sound file j .count) at before) (rw e at d) in
-      rw e (settled-only file j st (set inputs input byte) new s)
+-- an empty list changes nothing, on any table
+pub no-edits : (file : List ℕ) (before after : Env) (old new : List ℕ) {r : Answer} → EditsMade file before after [] old new r → (after ≡ before) × (new ≡ old)
+no-edits file before after old new (judged j kept) = kept
+no-edits file before after old new (refused j z kept) = kept
+no-edits file before after old new (done {n} {m} j z d) =
+    (d .0, none-edited (gateAt file) (signalCount n) after old new (edit-lengths _ file (stateIn before) (before .inputs) old n m z .values) (d .1))
 
-  table-settles : (contents left flops : List ℕ) (table word : ℕ) (inputs old new : List ℕ) → left ≡ set contents table word
-      → EditedFor file (touchesTable table) (stateOf left flops) inputs old new n → SettledFor file (stateOf contents flops) inputs old
-      → OnlySettled file (stateOf left flops) inputs new
-  table-settles contents left flops table word inputs old new e d before =
-      let s = contents-edited (gateAt file) (signalCount n) (closed file j) (accepted-free file j) (envOf (stateOf contents flops) inputs) table word old new (rw (records-sound file j .count) at before) (rw e at d) in
-      rw e (settled-only file j (stateOf (set contents table word) flops) inputs new s)
-
-pub input-edit-settles : (file : List ℕ) (st : State) (input byte : ℕ) (inputs left old new : List ℕ) → InputEdited file st input byte inputs left old new Done
-    → SettledFor file st inputs old → OnlySettled file st left new
-input-edit-settles file st input byte inputs left old new (done j z d) before = input-settles file j st input byte inputs left old new (d .0) (d .1) before
-
-pub table-edit-settles : (file contents left flops : List ℕ) (table word : ℕ) (inputs old new : List ℕ) → TableEdited file contents left flops table word inputs old new Done
-    → SettledFor file (stateOf contents flops) inputs old → OnlySettled file (stateOf left flops) inputs new
-table-edit-settles file contents left flops table word inputs old new (done j z d) before = table-settles file j contents left flops table word inputs old new (d .0) (d .1) before
-
--- ---- calls chain: an edit takes a good state, good inputs and good values, with an argument in range, and what it leaves is good for the next call
-module _ (file : List ℕ) {n m : ℕ} (j : Judged file (Accepted n m)) where
-  module _ (inputs old : List ℕ) {r : Answer} (given : GoodInputs m inputs) (values : GoodValues n old) where
-    pub input-edit-taken : (st : State) (input byte : ℕ) (left new : List ℕ) → GoodState file n st → badInput m input byte ≡ false
-        → InputEdited file st input byte inputs left old new r → r ≡ Done
-    input-edit-taken st input byte left new good fits c = not-refused file _ j (edit-good file st inputs old n m (badInput m input byte) good given values fits) c
-
-    pub table-edit-taken : (contents left flops : List ℕ) (table word : ℕ) (new : List ℕ) → GoodState file n (stateOf contents flops)
-        → badTable file n table word ≡ false → TableEdited file contents left flops table word inputs old new r → r ≡ Done
-    table-edit-taken contents left flops table word new good fits c =
-        not-refused file _ j (edit-good file (stateOf contents flops) inputs old n m (badTable file n table word) good given values fits) c
-
-  values-good : (touches : Gate → Bool) (st : State) (inputs old new : List ℕ) → GoodValues n old → EditedFor file touches st inputs old new n → GoodValues n new
-  values-good touches st inputs old new good d =
-      let long : length new ≡ signalCount n = d .size ∙ good .0 in
-      (long, bytes-good new (λ x h. edited-bits (gateAt file) (ordered file j .1) d (λ y l. good-bytes old (good .1) y (omega (arith, good .0))) x (omega arith)))
-
-  input-leaves : (st : State) (input byte : ℕ) (inputs left old new : List ℕ) → editRefusal (badInput m input byte) file st inputs old n m ≡ 0 → left ≡ set inputs input byte
-      → EditedFor file (touchesInput input) st left old new n → GoodState file n st × GoodInputs m left × GoodValues n new
-  input-leaves st input byte inputs left old new z e d =
-      let good = edit-tells file st inputs old n m (badInput m input byte) z in
-      let small = ltb-false 1 byte (or-right (leb m input) (ltb 1 byte) (edit-argument (badInput m input byte) file st inputs old n m z)) in
-      (good .0, rw e (length-set inputs input byte ∙ good .1 .0, set-bytes inputs input byte (good .1 .1) (omega arith)), values-good (touchesInput input) st left old new (good .2) d)
-
-  table-leaves : (contents left flops : List ℕ) (table word : ℕ) (inputs old new : List ℕ)
-      → editRefusal (badTable file n table word) file (stateOf contents flops) inputs old n m ≡ 0 → left ≡ set contents table word
-      → EditedFor file (touchesTable table) (stateOf left flops) inputs old new n → GoodState file n (stateOf left flops) × GoodInputs m inputs × GoodValues n new
-  table-leaves contents left flops table word inputs old new z e d =
-      let good = edit-tells file (stateOf contents flops) inputs old n m (badTable file n table word) z in
-      let sized = state-lengths n (stateOf contents flops) (good .0 .0) in
-      let allowed = or-right (leb (4 * n) table) (badWord file table word) (edit-argument (badTable file n table word) file (stateOf contents flops) inputs old n m z) in (
-        rw e (state-good n (stateOf (set contents table word) flops) (length-set contents table word ∙ sized .0) (sized .1), set-words file contents table word (good .0 .1) allowed),
-        good .1,
-        values-good (touchesTable table) (stateOf left flops) inputs old new (good .2) d,
+module _ (file : List ℕ) {n m : ℕ} (j : Judged file (Accepted n m)) (before after : Env) (es : List Edit) (old new : List ℕ) where
+  -- "The result is that of the edits made one after another": it is a result of theirs, and they have no other
+  pub edits-one-by-one :
+      EditsMade file before after es old new Done
+      → Steps (gateAt file) (signalCount n) before old (changesOf es) after new
+      × ((after′ : Env) (new′ : List ℕ) → Steps (gateAt file) (signalCount n) before old (changesOf es) after′ new′ → (after′ ≡ after) × (new′ ≡ new))
+  edits-one-by-one c =
+      let w = done-there file (editsRefusal file before es old) j c in
+      let e = w .1 .0 in
+      let d = w .1 .1 in
+      let size = edit-lengths _ file (stateIn before) (before .inputs) old n m (w .0) .values in (
+        subst⁻¹ (λ (a : Env). Steps (gateAt file) (signalCount n) before old (changesOf es) a new) e
+            (one-by-one (gateAt file) (signalCount n) (closed file j) (accepted-free file j) before (changesOf es) old new size .0 (rw e at d)),
+        λ after′ new′ s.
+            let t = steps-edited (gateAt file) (ordered file j .1) s in
+            (t .0 ∙ sym e, edited-once file j (changesOf es) after old new′ new size (rw e (t .1)) d),
       )
 
-pub input-edit-leaves : (file : List ℕ) (st : State) (input byte : ℕ) (inputs left old new : List ℕ) {n m : ℕ} → Judged file (Accepted n m)
-    → InputEdited file st input byte inputs left old new Done → GoodState file n st × GoodInputs m left × GoodValues n new
-input-edit-leaves file st input byte inputs left old new j c =
-    let d = done-there file _ j c in
-    input-leaves file j st input byte inputs left old new (d .0) (d .1 .0) (d .1 .1)
+  -- ---- calls chain: the call takes a good state, good inputs and good values, with edits in range, and what it leaves is good for the next call
+  pub edits-taken : {r : Answer} → GoodState file n (stateIn before) → GoodInputs m (before .inputs) → GoodValues n old → badEdits (badTable file n) m es ≡ false
+      → EditsMade file before after es old new r → r ≡ Done
+  edits-taken s i v fits c = not-refused file (editsRefusal file before es old) j (edit-good file (stateIn before) (before .inputs) old n m _ s i v fits) c
 
-pub table-edit-leaves : (file contents left flops : List ℕ) (table word : ℕ) (inputs old new : List ℕ) {n m : ℕ} → Judged file (Accepted n m)
-    → TableEdited file contents left flops table word inputs old new Done → GoodState file n (stateOf left flops) × GoodInputs m inputs × GoodValues n new
-table-edit-leaves file contents left flops table word inputs old new j c =
-    let d = done-there file _ j c in
-    table-leaves file j contents left flops table word inputs old new (d .0) (d .1 .0) (d .1 .1)
+module _ (file : List ℕ) (n m : ℕ) where
+  abbrev Good : Env → Type 0
+  Good e = GoodState file n (stateIn e) × GoodInputs m (e .inputs)
+
+  change-good : (e : Env) (c : Change) → badChange (badTable file n) m c ≡ false → Good e → Good (changed e c)
+  change-good e (OfInput j b) fits good =
+      let small = ltb-false 1 b (or-right (leb m j) (ltb 1 b) fits) in
+      (good .0, (length-set (e .inputs) j b ∙ good .1 .0, set-bytes (e .inputs) j b (good .1 .1) (omega arith)))
+  change-good e (OfContents t w) fits good =
+      let sized = state-lengths n (stateIn e) (good .0 .0) in
+      let allowed = or-right (leb (4 * n) t) (badWord file t w) fits in (
+        (state-good n (stateOf (set (e .contents) t w) (e .flops)) (length-set (e .contents) t w ∙ sized .0) (sized .1), set-words file (e .contents) t w (good .0 .1) allowed),
+        good .1,
+      )
+
+  changes-good : (e : Env) (es : List Edit) → anyBad (badTable file n) m es ≡ false → Good e → Good (changedBy e (changesOf es))
+  changes-good e [] fits good = good
+  changes-good e (x ∷ es) fits good =
+      let here = or-left (badEdit (badTable file n) m x) (anyBad (badTable file n) m es) fits in
+      changes-good (changed e (changeOf x)) es (or-right (badEdit (badTable file n) m x) (anyBad (badTable file n) m es) fits)
+      (change-good e (changeOf x) (or-right (ltb 1 (x .kind)) (badChange (badTable file n) m (changeOf x)) here) good)
+
+  pub edits-fit : (es : List Edit) → badEdits (badTable file n) m es ≡ false → anyBad (badTable file n) m es ≡ false
+  unfolding badEdits
+  edits-fit es fits = or-right (ltb editLimit (length es)) (anyBad (badTable file n) m es) fits
+
+pub edits-leave : (file : List ℕ) {n m : ℕ} → Judged file (Accepted n m) → (before after : Env) (es : List Edit) (old new : List ℕ)
+    → EditsMade file before after es old new Done → GoodState file n (stateIn after) × GoodInputs m (after .inputs) × GoodValues n new
+edits-leave file {n} {m} j before after es old new c =
+    let w = done-there file (editsRefusal file before es old) j c in
+    let d = w .1 .1 in
+    let good = edit-tells file (stateIn before) (before .inputs) old n m _ (w .0) in
+    let fits = edits-fit file n m es (edit-argument _ file (stateIn before) (before .inputs) old n m (w .0)) in
+    let after-good : Good file n m after = rw (w .1 .0) (changes-good file n m before es fits (good .0, good .1)) in
+    let long : length new ≡ signalCount n = d .size ∙ good .2 .0 in (
+      after-good .0,
+      after-good .1,
+      (long, bytes-good new (λ x h. edited-bits (gateAt file) (ordered file j .1) d (λ y l. good-bytes old (good .2 .1) y (omega (arith, good .2 .0))) x (omega arith))),
+    )

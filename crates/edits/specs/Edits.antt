@@ -1,63 +1,83 @@
--- What the two edits answer and leave. "After an edit that isn't refused the inputs and contents are the old ones with only the named byte or word
--- replaced."
+-- What the edit call answers and leaves. "All are checked first; one bad edit (11) or more than 256 (11) changes nothing. The result is that of
+-- the edits made one after another."
 use Prim.Native.Nat.{ℕ}
 use mathlib.Core.Path.{_≡_}
-use mathlib.Core.Bool.{Bool}
-use mathlib.Core.List.{List}
-use lib.ListN.{set}
+use mathlib.Core.Bool.{Bool, false, _||_, cond}
+use mathlib.Core.List.{List, [], _∷_, map}
+use lib.Dec.{eqb, ltb}
+use lib.ListN.{length}
 use Rattle.lent.specs.Lent.{Lent, was, left}
-use Rattle.netlist.specs.Rule.{touchesInput, touchesTable}
+use Rattle.netlist.specs.Rule.{Env, env}
 use Rattle.netlist.specs.Settle.{Edited}
-use Rattle.netlist.specs.declared.Gate.{Gate}
+use Rattle.netlist.specs.Changes.{Change, OfInput, OfContents, changedBy, touchesAny}
 use Rattle.netlist.specs.Table.{signalCount, netOf}
 use Rattle.slicefile.specs.declared.Answer.{Answer}
-use Rattle.column.specs.Clock.{State, stateOf, stateWas, envOf}
+use Rattle.editlist.specs.Listed.{editLimit}
+use Rattle.editlist.specs.declared.Edit.{Edit}
+use Rattle.column.specs.Clock.{State, stateOf}
 use Rattle.column.specs.File.{gateAt}
 use Rattle.plan.specs.Plan.{planEdges}
 use Rattle.buffers.specs.Buffers.{editRefusal, editRefusalBy, badInput, badTable, badTableBy, badWordsBy}
 use Rattle.calls.specs.Calls.{Called, Planned}
 
--- the value table that an edit leaves, for the state and inputs after it: what depends on the change is recomputed, all else keeps its byte
-abbrev pub EditedFor : List ℕ → (Gate → Bool) → State → List ℕ → List ℕ → List ℕ → ℕ → Type 0
-EditedFor file touches st inputs old new n =
-    Edited (gateAt file) (signalCount n) (envOf st inputs) (λ x. touches (gateAt file x)) old new
+-- "each an input or a table's contents": kind 0 is an outside input, any other a table
+abbrev pub changeOf : Edit → Change
+changeOf e = cond (eqb (e .kind) 0) (OfInput (e .number) (e .value)) (OfContents (e .number) (e .value))
 
--- "edit an input": leaves its new byte, and the values
-abbrev pub InputEdited : List ℕ → State → ℕ → ℕ → List ℕ → List ℕ → List ℕ → List ℕ → Answer → Type 0
-InputEdited file st input byte inputs inputs′ old new =
-    Called file (λ n m. editRefusal (badInput m input byte) file st inputs old n m) ((inputs′ ≡ inputs) × (new ≡ old))
-    (λ n m. (inputs′ ≡ set inputs input byte) × EditedFor file (touchesInput input) st inputs′ old new n)
+-- "the edits", as changes "in their order"
+abbrev pub changesOf : List Edit → List Change
+changesOf es = map changeOf es
 
--- "edit a table's contents": leaves its new word, and the values
-abbrev pub TableEdited : List ℕ → List ℕ → List ℕ → List ℕ → ℕ → ℕ → List ℕ → List ℕ → List ℕ → Answer → Type 0
-TableEdited file contents contents′ flops table word inputs old new =
-    Called file (λ n m. editRefusal (badTable file n table word) file (stateOf contents flops) inputs old n m)
-    ((contents′ ≡ contents) × (new ≡ old))
-    (λ n m. (contents′ ≡ set contents table word) × EditedFor file (touchesTable table) (stateOf contents′ flops) inputs old new n)
+-- a change that is not in range, with m outside inputs and a test of a table's new contents
+abbrev pub badChange : (ℕ → ℕ → Bool) → ℕ → Change → Bool
+badChange bad m (OfInput j b) = badInput m j b
+badChange bad m (OfContents t w) = bad t w
 
--- the two over a plan of n slices and m outside inputs, whatever file it stands for
-abbrev pub EditedPlan : List ℕ → ℕ → (Gate → Bool) → State → List ℕ → List ℕ → List ℕ → Type 0
-EditedPlan plan n touches st inputs old new =
-    Edited (netOf plan n) (signalCount n) (envOf st inputs) (λ x. touches (netOf plan n x)) old new
+-- a bad edit: of no kind, or of a change that is not in range
+abbrev pub badEdit : (ℕ → ℕ → Bool) → ℕ → Edit → Bool
+badEdit bad m e = ltb 1 (e .kind) || badChange bad m (changeOf e)
 
-abbrev pub planRefusal : Bool → List ℕ → ℕ → ℕ → State → List ℕ → List ℕ → ℕ
-planRefusal argument plan n m st inputs values = editRefusalBy argument (badWordsBy (planEdges plan n) (st .contents)) st inputs values n m
+abbrev pub anyBad : (ℕ → ℕ → Bool) → ℕ → List Edit → Bool
+anyBad bad m [] = false
+anyBad bad m (e ∷ es) = badEdit bad m e || anyBad bad m es
 
-abbrev pub InputPlanned : List ℕ → ℕ → ℕ → State → ℕ → ℕ → List ℕ → List ℕ → List ℕ → List ℕ → Answer → Type 0
-InputPlanned plan n m st input byte inputs inputs′ old new =
-    Planned (planRefusal (badInput m input byte) plan n m st inputs old) ((inputs′ ≡ inputs) × (new ≡ old))
-    ((inputs′ ≡ set inputs input byte) × EditedPlan plan n (touchesInput input) st inputs′ old new)
+-- "one bad edit (11) or more than 256 (11)"
+unfoldable pub badEdits : (ℕ → ℕ → Bool) → ℕ → List Edit → Bool
+badEdits bad m es = ltb editLimit (length es) || anyBad bad m es
 
-abbrev pub TablePlanned : List ℕ → ℕ → ℕ → List ℕ → List ℕ → List ℕ → ℕ → ℕ → List ℕ → List ℕ → List ℕ → Answer → Type 0
-TablePlanned plan n m contents contents′ flops table word inputs old new =
-    Planned (planRefusal (badTableBy (planEdges plan n) n table word) plan n m (stateOf contents flops) inputs old) ((contents′ ≡ contents) × (new ≡ old))
-    ((contents′ ≡ set contents table word) × EditedPlan plan n (touchesTable table) (stateOf contents′ flops) inputs old new)
+-- the contents and the flip-flops that a rule takes
+abbrev pub stateIn : Env → State
+stateIn e = stateOf (e .contents) (e .flops)
 
--- the two calls' promises on lent buffers, as they were and as they are left
-abbrev pub EditsInput : Lent → Lent → Lent → Lent → Lent → ℕ → ℕ → Answer → Type 0
-EditsInput file contents flops inputs values input byte =
-    InputEdited (was file) (stateWas contents flops) input byte (was inputs) (left inputs) (was values) (left values)
+-- the refusal of an edit call on a file, with the buffers as they were
+abbrev pub editsRefusal : List ℕ → Env → List Edit → List ℕ → ℕ → ℕ → ℕ
+editsRefusal file before es old n m = editRefusal (badEdits (badTable file n) m es) file (stateIn before) (before .inputs) old n m
 
-abbrev pub EditsTable : Lent → Lent → Lent → Lent → Lent → ℕ → ℕ → Answer → Type 0
-EditsTable file contents flops inputs values table word =
-    TableEdited (was file) (was contents) (left contents) (was flops) table word (was inputs) (was values) (left values)
+-- the value table that edits leave, for the contents and inputs after them: what depends on any change of the list is recomputed, all else keeps its
+-- byte
+abbrev pub EditedFor : List ℕ → List Change → Env → List ℕ → List ℕ → ℕ → Type 0
+EditedFor file cs after old new n = Edited (gateAt file) (signalCount n) after (λ x. touchesAny cs (gateAt file x)) old new
+
+-- the edit call: the contents, flip-flops and inputs before and after it, the edits, the values before and after it
+abbrev pub EditsMade : List ℕ → Env → Env → List Edit → List ℕ → List ℕ → Answer → Type 0
+EditsMade file before after es old new =
+    Called file (editsRefusal file before es old) ((after ≡ before) × (new ≡ old))
+    (λ n m. (after ≡ changedBy before (changesOf es)) × EditedFor file (changesOf es) after old new n)
+
+-- the same over a plan of n slices and m outside inputs, whatever file it stands for
+abbrev pub planRefusal : List ℕ → ℕ → ℕ → Env → List Edit → List ℕ → ℕ
+planRefusal plan n m before es old =
+    editRefusalBy (badEdits (badTableBy (planEdges plan n) n) m es) (badWordsBy (planEdges plan n) (before .contents)) (stateIn before) (before .inputs) old n m
+
+abbrev pub EditedPlan : List ℕ → ℕ → List Change → Env → List ℕ → List ℕ → Type 0
+EditedPlan plan n cs after old new = Edited (netOf plan n) (signalCount n) after (λ x. touchesAny cs (netOf plan n x)) old new
+
+abbrev pub EditsPlanned : List ℕ → ℕ → ℕ → Env → Env → List Edit → List ℕ → List ℕ → Answer → Type 0
+EditsPlanned plan n m before after es old new =
+    Planned (planRefusal plan n m before es old) ((after ≡ before) × (new ≡ old))
+    ((after ≡ changedBy before (changesOf es)) × EditedPlan plan n (changesOf es) after old new)
+
+-- the call's promise on lent buffers, as they were and as they are left
+abbrev pub Edits : Lent → Lent → Lent → Lent → Lent → List Edit → Answer → Type 0
+Edits file contents flops inputs values es =
+    EditsMade (was file) (env (was contents) (was flops) (was inputs)) (env (left contents) (was flops) (left inputs)) es (was values) (left values)

@@ -1,9 +1,20 @@
-// The calls on a slice file and lent buffers that change it as it runs: edit an input, edit a table's contents.
+// The call on a slice file and lent buffers that changes it as it runs: the edits of a list. Here the list is in words (crate `editlist`).
+ghost use mathlib.Core.Path.{_≡_};
+ghost use mathlib.Core.List.{[], _∷_};
+ghost use Prim.Native.Nat.{_*_, _≤_};
+ghost use lib.ListN.{length};
 ghost use Rattle.lent.specs.Lent.{was, left};
-ghost use Rattle.column.specs.Clock.{stateWas};
+ghost use Rattle.netlist.specs.Rule.{env};
+ghost use Rattle.slicefile.specs.Format.{sliceLimit};
+ghost use Rattle.clocknumbers.specs.Numbers.{edgeLength};
+ghost use Rattle.editlist.specs.Listed.{editLimit, listLength, edit, editsIn};
 ghost use Rattle.plan.specs.Plan.{Runnable};
-ghost use Rattle.edits.specs.Edits.{InputPlanned, TablePlanned, EditsInput, EditsTable};
+ghost use Rattle.buffers.specs.Buffers.{badTableBy};
+ghost use Rattle.edits.specs.Edits.{changeOf, changesOf, badEdit, badEdits, EditsPlanned, Edits};
+ghost use Rattle.edits.specs.Storing.{store, Marks, Storable, AllStorable, Stores};
 use column::Verdict;
+use editlist::EDIT_LIMIT;
+use editlist::LIST_WORDS;
 use plan::PLAN_LIMIT;
 use slicefile::Answer;
 use slicefile::INPUT_LIMIT;
@@ -12,104 +23,137 @@ use slicefile::SLICE_LIMIT;
 // The most words of contents.
 const CONTENTS_LIMIT: usize = 4 * SLICE_LIMIT;
 
-// Edits an input by a plan of n slices and m outside inputs.
-fn edit_input_planned(
+// Whether an edit is of no kind, or its change is not in range.
+fn bad_edit(edges: &[u16], n: usize, m: usize, kind: u64, number: u64, value: u64) -> bool
+    requires { ⌜ (n ≤ sliceLimit) × (length (now edges) ≡ edgeLength * n) ⌝ }
+    ensures { λ r. ⌜ r ≡ badEdit (badTableBy (was edges) n) m (edit kind number value) ⌝ }
+{
+    let at = number as usize;
+    if kind == 0 {
+        return (m <= at) | (1 < value);
+    }
+    buffers::bad_table(edges, n, at, value) | (1 < kind)
+}
+
+// Whether a list of edits is too long, or one of them is bad.
+fn bad_edits(edges: &[u16], n: usize, m: usize, words: &[u64], count: usize) -> bool
+    requires { ⌜ (n ≤ sliceLimit) × (length (now edges) ≡ edgeLength * n) × (length (now words) ≡ listLength) ⌝ }
+    ensures { λ r. ⌜ r ≡ badEdits (badTableBy (was edges) n) m (editsIn (was words) count) ⌝ }
+{
+    if EDIT_LIMIT < count {
+        return true;
+    }
+    let mut found = false;
+    let mut i = 0;
+    while i < count {
+        let at = 3 * i;
+        found = found | bad_edit(edges, n, m, words[at], words[at + 1], words[at + 2]);
+        i += 1;
+    }
+    found
+}
+
+// Stores the byte or the word of an edit, and marks its input or its table.
+fn store_edit(
+    kind: u64,
+    number: u64,
+    value: u64,
+    contents: &mut [u64],
+    inputs: &mut [u8],
+    changed: &mut [u8],
+    edited: &mut [u8],
+)
+    requires { ⌜ Storable (length (now contents)) (length (now inputs)) (changeOf (edit kind number value)) ⌝ }
+    requires { ⌜ Marks (store (now contents) (now inputs) (now changed) (now edited)) ⌝ }
+    ensures { λ _. ⌜ Stores (changeOf (edit kind number value) ∷ []) contents inputs changed edited ⌝ }
+{
+    let at = number as usize;
+    if kind == 0 {
+        inputs[at] = value as u8;
+        changed[at] = 1;
+    } else {
+        contents[at] = value;
+        edited[at] = 1;
+    }
+}
+
+// Stores the edits one after another.
+fn store_edits(
+    words: &[u64],
+    count: usize,
+    contents: &mut [u64],
+    inputs: &mut [u8],
+    changed: &mut [u8],
+    edited: &mut [u8],
+)
+    requires { ⌜ (length (now words) ≡ listLength) × (count ≤ editLimit) ⌝ }
+    requires { ⌜ AllStorable (length (now contents)) (length (now inputs)) (changesOf (editsIn (now words) count)) ⌝ }
+    requires { ⌜ Marks (store (now contents) (now inputs) (now changed) (now edited)) ⌝ }
+    ensures { λ _. ⌜ Stores (changesOf (editsIn (was words) count)) contents inputs changed edited ⌝ }
+{
+    let mut i = 0;
+    while i < count {
+        let at = 3 * i;
+        store_edit(
+            words[at],
+            words[at + 1],
+            words[at + 2],
+            contents,
+            inputs,
+            changed,
+            edited,
+        );
+        i += 1;
+    }
+}
+
+// Edits by a plan of n slices and m outside inputs.
+fn edit_planned(
     plan: &[u16],
     n: usize,
     m: usize,
-    contents: &[u64],
+    contents: &mut [u64],
     flops: &[u8],
     inputs: &mut [u8],
     values: &mut [u8],
-    input: usize,
-    byte: u8,
+    words: &[u64],
+    count: usize,
 ) -> Answer
-    requires { ⌜ Runnable n m (now plan) ⌝ }
-    ensures { λ r. ⌜ InputPlanned (was plan) n m (stateWas contents flops) input byte (was inputs) (left inputs) (was values) (left values) r ⌝ }
+    requires { ⌜ Runnable n m (now plan) × (length (now words) ≡ listLength) ⌝ }
+    ensures { λ r. ⌜ EditsPlanned (was plan) n m (env (was contents) (was flops) (was inputs)) (env (left contents) (was flops) (left inputs))
+        (editsIn (was words) count) (was values) (left values) r ⌝ }
 {
     let edges = plan::edges(plan, n);
-    let bad = (m <= input) | (1 < byte);
+    let bad = bad_edits(edges, n, m, words, count);
     let number = buffers::edit_refusal(bad, edges, n, m, contents, flops, inputs, values);
     if number != 0 {
         return Answer::Refused { number, place: 0 };
     }
-    inputs[input] = byte;
     let mut changed = [0u8; INPUT_LIMIT];
-    changed[input] = 1;
-    let edited = [0u8; 1];
+    let mut edited = [0u8; CONTENTS_LIMIT];
+    store_edits(words, count, contents, inputs, &mut changed, &mut edited);
     let table = plan::table(plan, n);
     let order = plan::order(plan, n);
     walks::edit_by(table, n, order, contents, inputs, values, &changed, &edited);
     Answer::Done
 }
 
-// Sets an outside input, and recomputes the signals that depend on it.
-pub fn edit_input(
+// Makes the edits of a list one after another, and recomputes the signals that depend on any of their changes.
+pub fn edit(
     file: &[u8],
-    contents: &[u64],
+    contents: &mut [u64],
     flops: &[u8],
     inputs: &mut [u8],
     values: &mut [u8],
-    input: usize,
-    byte: u8,
+    words: [u64; LIST_WORDS],
+    count: usize,
 ) -> Answer
-    ensures { λ r. ⌜ EditsInput file contents flops inputs values input byte r ⌝ }
+    ensures { λ r. ⌜ Edits file contents flops inputs values (editsIn words count) r ⌝ }
 {
     let mut plan = [0u16; PLAN_LIMIT];
     let v = plan::load(file, &mut plan);
     let Verdict::Accepted { n, m } = v else {
         return calls::refusal(v);
     };
-    edit_input_planned(&plan, n, m, contents, flops, inputs, values, input, byte)
-}
-
-// Edits a table's contents by a plan of n slices and m outside inputs.
-fn edit_table_planned(
-    plan: &[u16],
-    n: usize,
-    m: usize,
-    contents: &mut [u64],
-    flops: &[u8],
-    inputs: &[u8],
-    values: &mut [u8],
-    table: usize,
-    word: u64,
-) -> Answer
-    requires { ⌜ Runnable n m (now plan) ⌝ }
-    ensures { λ r. ⌜ TablePlanned (was plan) n m (was contents) (left contents) (was flops) table word (was inputs) (was values) (left values) r ⌝ }
-{
-    let edges = plan::edges(plan, n);
-    let bad = buffers::bad_table(edges, n, table, word);
-    let number = buffers::edit_refusal(bad, edges, n, m, contents, flops, inputs, values);
-    if number != 0 {
-        return Answer::Refused { number, place: 0 };
-    }
-    contents[table] = word;
-    let changed = [0u8; INPUT_LIMIT];
-    let mut edited = [0u8; CONTENTS_LIMIT];
-    edited[table] = 1;
-    let gates = plan::table(plan, n);
-    let order = plan::order(plan, n);
-    walks::edit_by(gates, n, order, contents, inputs, values, &changed, &edited);
-    Answer::Done
-}
-
-// Sets a table's contents, and recomputes the signals that depend on them. The table is numbered as its word.
-pub fn edit_table(
-    file: &[u8],
-    contents: &mut [u64],
-    flops: &[u8],
-    inputs: &[u8],
-    values: &mut [u8],
-    table: usize,
-    word: u64,
-) -> Answer
-    ensures { λ r. ⌜ EditsTable file contents flops inputs values table word r ⌝ }
-{
-    let mut plan = [0u16; PLAN_LIMIT];
-    let v = plan::load(file, &mut plan);
-    let Verdict::Accepted { n, m } = v else {
-        return calls::refusal(v);
-    };
-    edit_table_planned(&plan, n, m, contents, flops, inputs, values, table, word)
+    edit_planned(&plan, n, m, contents, flops, inputs, values, &words, count)
 }

@@ -188,6 +188,14 @@ module _ (g : ℕ → Gate) {N : ℕ} {order : List ℕ} (o : Ordered (readsIn g
       )) in
       (rw (o .size) at (w .0), w .2)
 
+  -- so any table can be edited
+  pub some-edited : N ≤ length old → (new : List ℕ) × Edited g N e touches old new
+  some-edited long =
+      let zeros : List ℕ = replicate N 0 in
+      let s = editBy g e touches (record { marks = zeros; table = old }) order in
+      let w = edit-by-order zeros (le-of-eq (sym (length-replicate N 0))) long in
+      (s .table, edit-all N (le-refl N) (s .marks) (s .table) (w .1) (w .0))
+
 module _ (g : ℕ → Gate) {N : ℕ} {order : List ℕ} (o : Ordered (readsIn g) N order) (touches : ℕ → Bool) where
   -- whether a signal depends on the change is decided, by the marks
   pub affected? : (x : ℕ) → x < N → Dec (Affected (readsIn g) touches x)
@@ -232,7 +240,7 @@ module _ (g : ℕ → Gate) {N : ℕ} {order : List ℕ} (o : Ordered (readsIn g
       (done : Edited g N e′ touches old new)
     where
       -- a signal that does not depend on the change has the same rule's value before and after
-      rule-off : (x : ℕ) → x < N → (Affected (readsIn g) touches x → ⊥) → ruleIn g e old x ≡ ruleIn g e′ new x
+      pub rule-off : (x : ℕ) → x < N → (Affected (readsIn g) touches x → ⊥) → ruleIn g e old x ≡ ruleIn g e′ new x
       rule-off x h n =
           same x (untouched (touches x) refl) old
           ∙ rule-local e′ old new (g x) (λ y r. sym (done .kept y (reads-below o x h r) (λ a. n (affected-through (readsIn g) touches r a))))

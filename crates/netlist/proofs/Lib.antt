@@ -7,6 +7,8 @@ pub mod Walk
 pub mod Settling
 pub mod Editing
 pub mod Bits
+pub mod Composing
+pub mod Replacing
 pub mod Net
 pub mod Table
 pub mod Wires

@@ -1,5 +1,5 @@
 -- What a gate's rule depends on: the bytes of the signals it reads, the inputs and the contents it touches. Assumes nothing.
-use mathlib.Core.Path.{_≡_, refl, sym, ap, ap₂}
+use mathlib.Core.Path.{_≡_, refl, sym, _∙_, ap, ap₂}
 use mathlib.Core.Bool.{Bool, true, false, _||_}
 use mathlib.Core.List.{List, [], _∷_, map, List·Memᴰ}
 use mathlib.Core.List.List·Memᴰ.{List·Memᴰ·head, List·Memᴰ·tail}
@@ -13,6 +13,7 @@ use Rattle.netlist.specs.declared.Source.the-variants.{Constant, Input, 
 use Rattle.netlist.specs.declared.Gate.{Gate}
 use Rattle.netlist.specs.declared.Gate.the-variants.{Lut, ZeroOf, Select, Xor, Same, Stored}
 use Rattle.netlist.specs.Rule.{Env, bit, bitAt, number, valueOf, applyGate, ruleOf, sourcesOf, signalsIn, readsOf, isInput, anySource, touchesInput, touchesTable, setInput, setContents}
+use Rattle.netlist.specs.Changes.{Change, OfInput, OfContents, changed, changedBy, touches, touchesAny}
 
 -- the bits on sources, from two tables that agree on the signals among them
 values-agree :
@@ -45,11 +46,11 @@ unfolding ruleOf readsOf
 rule-local e t t′ gate a =
     gate-agrees (e .contents) (e .flops) (valueOf (e .inputs) t) (valueOf (e .inputs) t′) gate (values-agree (e .inputs) t t′ (sourcesOf gate) a)
 
-pub or-false-left : (a b : Bool) → (a || b) ≡ false → a ≡ false
+or-false-left : (a b : Bool) → (a || b) ≡ false → a ≡ false
 or-false-left true b e = e
 or-false-left false b e = refl
 
-pub or-false-right : (a b : Bool) → (a || b) ≡ false → b ≡ false
+or-false-right : (a b : Bool) → (a || b) ≡ false → b ≡ false
 or-false-right true true e = e
 or-false-right true false e = refl
 or-false-right false b e = e
@@ -66,7 +67,7 @@ inputs-agree i t j b (Input k ∷ ss) n =
 inputs-agree i t j b (Signal y ∷ ss) n = ap (λ (l : List ℕ). getD t y 0 % 2 ∷ l) (inputs-agree i t j b ss n)
 
 -- a rule that does not touch an input is the same before and after the input changes
-pub rule-input :
+rule-input :
     (e : Env) (j b : ℕ) (t : List ℕ) (gate : Gate) → touchesInput j gate ≡ false → ruleOf e t gate ≡ ruleOf (setInput e j b) t gate
 unfolding ruleOf touchesInput
 rule-input e j b t gate n =
@@ -86,7 +87,19 @@ contents-agree c f v t w (Same a) n = refl
 contents-agree c f v t w (Stored k) n = refl
 
 -- nor does a rule that does not touch a table change with its contents
-pub rule-contents :
+rule-contents :
     (e : Env) (u w : ℕ) (t : List ℕ) (gate : Gate) → touchesTable u gate ≡ false → ruleOf e t gate ≡ ruleOf (setContents e u w) t gate
 unfolding ruleOf
 rule-contents e u w t gate n = contents-agree (e .contents) (e .flops) (valueOf (e .inputs) t) u w gate n
+
+-- nor does a rule that touches none of several changes change with them
+rule-change : (e : Env) (c : Change) (t : List ℕ) (gate : Gate) → touches c gate ≡ false → ruleOf e t gate ≡ ruleOf (changed e c) t gate
+rule-change e (OfInput j b) t gate n = rule-input e j b t gate n
+rule-change e (OfContents u w) t gate n = rule-contents e u w t gate n
+
+pub rule-changes :
+    (e : Env) (cs : List Change) (t : List ℕ) (gate : Gate) → touchesAny cs gate ≡ false → ruleOf e t gate ≡ ruleOf (changedBy e cs) t gate
+rule-changes e [] t gate n = refl
+rule-changes e (c ∷ cs) t gate n =
+    rule-change e c t gate (or-false-left (touches c gate) (touchesAny cs gate) n)
+    ∙ rule-changes (changed e c) cs t gate (or-false-right (touches c gate) (touchesAny cs gate) n)

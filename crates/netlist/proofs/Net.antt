@@ -1,17 +1,21 @@
--- The theorems on nets without loops, and on the two kinds of edit. Assumes nothing.
-use mathlib.Core.Path.{_≡_}
+-- The theorems on nets without loops: settled tables, and edits of any list of changes. Assumes nothing.
+use mathlib.Core.Path.{_≡_, sym, subst}
 use mathlib.Core.Bool.{Bool}
 use mathlib.Core.List.{List}
+use mathlib.Core.Logic.{_↔_}
 use Prim.Native.Nat.{ℕ}
+use native.Mathlib.Nat.{le-of-eq}
 use lib.ListN.{length, replicate, length-replicate}
 use Rattle.netlist.specs.declared.Gate.{Gate}
-use Rattle.netlist.specs.Rule.{Env, touchesInput, touchesTable, setInput, setContents}
-use Rattle.netlist.specs.Graph.{LoopFree, WellFormed}
+use Rattle.netlist.specs.Rule.{Env}
+use Rattle.netlist.specs.Graph.{LoopFree, WellFormed, Ordered}
 use Rattle.netlist.specs.Settle.{readsIn, Settled, settleBy, Edited}
-use Rattle.netlist.proofs.Locality.{rule-input, rule-contents}
+use Rattle.netlist.specs.Changes.{Change, changedBy, touchesAny, Steps}
+use Rattle.netlist.proofs.Locality.{rule-changes}
 use Rattle.netlist.proofs.Loops.{some-order}
 use Rattle.netlist.proofs.Settling.{settle-by-order, settled-unique}
 use Rattle.netlist.proofs.Editing.{edited-settled, edited-unique}
+use Rattle.netlist.proofs.Composing.{steps-edited, some-steps}
 
 module _ (g : ℕ → Gate) (N : ℕ) (wf : WellFormed (readsIn g) N) (free : LoopFree (readsIn g) N) where
   -- exactly one table is settled
@@ -29,15 +33,25 @@ module _ (g : ℕ → Gate) (N : ℕ) (wf : WellFormed (readsIn g) N) (free : Lo
       → new ≡ new′
   one-edited e touches old new new′ long d d′ = edited-unique g (some-order (readsIn g) N wf free .1) touches e old new new′ long d d′
 
-  -- an edit of a settled table leaves a settled one
-  pub input-edited :
-      (e : Env) (j b : ℕ) (old new : List ℕ) → Settled g N e old → Edited g N (setInput e j b) (λ x. touchesInput j (g x)) old new
-      → Settled g N (setInput e j b) new
-  input-edited e j b old new s d =
-      edited-settled g (some-order (readsIn g) N wf free .1) (λ x. touchesInput j (g x)) e (setInput e j b) (λ x n t. rule-input e j b t (g x) n) old new d s
+  -- an edit of all changes of a list on a settled table leaves a settled one
+  pub changes-edited :
+      (e : Env) (cs : List Change) (old new : List ℕ) → Settled g N e old → Edited g N (changedBy e cs) (λ x. touchesAny cs (g x)) old new
+      → Settled g N (changedBy e cs) new
+  changes-edited e cs old new s d =
+      edited-settled g (some-order (readsIn g) N wf free .1) (λ x. touchesAny cs (g x)) e (changedBy e cs) (λ x n t. rule-changes e cs t (g x) n) old new d s
 
-  pub contents-edited :
-      (e : Env) (u w : ℕ) (old new : List ℕ) → Settled g N e old → Edited g N (setContents e u w) (λ x. touchesTable u (g x)) old new
-      → Settled g N (setContents e u w) new
-  contents-edited e u w old new s d =
-      edited-settled g (some-order (readsIn g) N wf free .1) (λ x. touchesTable u (g x)) e (setContents e u w) (λ x n t. rule-contents e u w t (g x) n) old new d s
+  -- it leaves what "the edits made one after another" leave, and they what it leaves
+  pub one-by-one :
+      (e : Env) (cs : List Change) (old new : List ℕ) → length old ≡ N
+      → Edited g N (changedBy e cs) (λ x. touchesAny cs (g x)) old new ↔ Steps g N e old cs (changedBy e cs) new
+  one-by-one e cs old new long = (to, λ s. steps-edited g o s .1)
+    where
+      o : Ordered (readsIn g) N (some-order (readsIn g) N wf free .0)
+      o = some-order (readsIn g) N wf free .1
+
+      to : Edited g N (changedBy e cs) (λ x. touchesAny cs (g x)) old new → Steps g N e old cs (changedBy e cs) new
+      to d =
+          let w = some-steps g o e cs old (le-of-eq (sym long)) in
+          subst (λ (t : List ℕ). Steps g N e old cs (changedBy e cs) t)
+          (one-edited (changedBy e cs) (λ x. touchesAny cs (g x)) old (w .0) new long (steps-edited g o (w .1) .1) d)
+          (w .1)

@@ -10,10 +10,11 @@ use lib.ListN.{length}
 use Rattle.slicefile.specs.declared.Answer.{Answer}
 use Rattle.slicefile.specs.declared.Answer.the-variants.{Refused, Done}
 use Rattle.rules.specs.Rules.{given, _orElse_}
+use Rattle.editlist.specs.declared.Edit.{Edit}
 use Rattle.slicerecord.specs.Record.{recordOf}
 use Rattle.recordcalls.specs.Calls.{writeRefusal, answerOf, unless, written}
 use Rattle.recordcalls.proofs.Answers.{kept-refused}
-use Rattle.column.specs.Clock.{State}
+use Rattle.column.specs.Clock.{State, envOf}
 use Rattle.column.specs.Judge.{Judged}
 use Rattle.column.specs.declared.Verdict.{Verdict}
 use Rattle.column.specs.declared.Verdict.the-variants.{Refused as VerdictRefused, Accepted}
@@ -22,8 +23,8 @@ use Rattle.calls.specs.Calls.{Called, PoweredUp}
 use Rattle.calls.proofs.Demands.{refused-kept as call-kept, power-up-unique}
 use Rattle.simulator.specs.Running.{SettleCalled, ClockCalled}
 use Rattle.simulator.proofs.Demands.{settle-unique, clock-unique}
-use Rattle.edits.specs.Edits.{InputEdited, TableEdited}
-use Rattle.edits.proofs.Demands.{input-edit-unique, table-edit-unique}
+use Rattle.edits.specs.Edits.{stateIn, EditsMade}
+use Rattle.edits.proofs.Demands.{edits-unique}
 use Rattle.quagmuffin.specs.Bodies.{badBody, readBodyRefusal, bodyRead, writeBodyRefusal, bodyWritten, RecordRead, RecordWritten}
 use Rattle.quagmuffin.specs.Packed.{pack, packAnswer, packVerdict, unpackAnswer, unpackVerdict, Packed, Answered, SmallAnswer, SmallVerdict}
 use Rattle.quagmuffin.proofs.Small.{judged-small, called-small}
@@ -108,15 +109,12 @@ pub clock-determined : (file : List ℕ) (st moved moved′ : State) (inputs old
     → Answered (ClockCalled file st moved inputs old new) i → Answered (ClockCalled file st moved′ inputs old new′) j → (i ≡ j) × ((moved ≡ moved′) × (new ≡ new′))
 clock-determined file st moved moved′ inputs old new new′ p q = once (λ a b c d. clock-unique file st moved moved′ inputs old new new′ c d) p q
 
-pub input-edit-determined : (file : List ℕ) (st : State) (input byte : ℕ) (inputs left left′ old new new′ : List ℕ) {i j : ℕ}
-    → Answered (InputEdited file st input byte inputs left old new) i → Answered (InputEdited file st input byte inputs left′ old new′) j
-    → (i ≡ j) × ((left ≡ left′) × (new ≡ new′))
-input-edit-determined file st input byte inputs left left′ old new new′ p q = once (λ a b c d. input-edit-unique file st input byte inputs left left′ old new new′ c d) p q
-
-pub table-edit-determined : (file contents left left′ flops : List ℕ) (table word : ℕ) (inputs old new new′ : List ℕ) {i j : ℕ}
-    → Answered (TableEdited file contents left flops table word inputs old new) i → Answered (TableEdited file contents left′ flops table word inputs old new′) j
-    → (i ≡ j) × ((left ≡ left′) × (new ≡ new′))
-table-edit-determined file contents left left′ flops table word inputs old new new′ p q = once (λ a b c d. table-edit-unique file contents left left′ flops table word inputs old new new′ c d) p q
+pub edits-determined : (file : List ℕ) (st moved moved′ : State) (inputs left left′ : List ℕ) (es : List Edit) (old new new′ : List ℕ) {i j : ℕ}
+    → Answered (EditsMade file (envOf st inputs) (envOf moved left) es old new) i → Answered (EditsMade file (envOf st inputs) (envOf moved′ left′) es old new′) j
+    → (i ≡ j) × ((moved ≡ moved′) × (left ≡ left′) × (new ≡ new′))
+edits-determined file st moved moved′ inputs left left′ es old new new′ p q =
+    let u = once (λ a b c d. edits-unique file (envOf st inputs) (envOf moved left) (envOf moved′ left′) es old new new′ c d) p q in
+    (u .0, (ap stateIn (u .1 .0), ap (λ e. e .inputs) (u .1 .0), u .1 .1))
 
 -- the record calls equal a definition in both
 pub read-determined : (s : List ℕ) (n m : ℕ) (old new new′ : List ℕ) {i j : ℕ} → RecordRead s n m old new i → RecordRead s n m old new′ j → (i ≡ j) × (new ≡ new′)

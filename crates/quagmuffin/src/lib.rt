@@ -7,11 +7,14 @@ ghost use Rattle.slicefile.specs.Format.{sliceTag, bodyLength};
 ghost use Rattle.column.specs.Judge.{Judged};
 ghost use Rattle.calls.specs.Calls.{PowersUp};
 ghost use Rattle.simulator.specs.Running.{Settles, Clocks};
-ghost use Rattle.edits.specs.Edits.{EditsInput, EditsTable};
+ghost use Rattle.editlist.specs.Listed.{editsIn};
+ghost use Rattle.edits.specs.Edits.{Edits};
 ghost use Rattle.quagmuffin.specs.Bodies.{ReadInto, RecordRead, RecordWritten};
 ghost use Rattle.quagmuffin.specs.Packed.{pack, packAnswer, packVerdict, unpackVerdict, Fits, SmallAnswer, Packed, Answered};
 ghost use Rattle.quagmuffin.specs.Serial.{stateLength, packReply, unpackReply, FitsReply, readerOf, wordsOf, FeedsWords};
 use column::Verdict;
+use editlist::Edit;
+use editlist::LIST_WORDS;
 use slicefile::Answer;
 use slicefile::HEAD;
 use slicefile::SLICE_BODY;
@@ -96,36 +99,35 @@ pub extern "C" fn qm_clock(
     pack_answer(simulator::clock(file, contents, flops, inputs, values))
 }
 
-// Sets an outside input, and recomputes the signals that depend on it.
-#[no_mangle]
-pub extern "C" fn qm_edit_input(
-    file: &[u8],
-    contents: &[u64],
-    flops: &[u8],
-    inputs: &mut [u8],
-    values: &mut [u8],
-    input: usize,
-    byte: u8,
-) -> u64
-    ensures { λ r. ⌜ Answered (EditsInput file contents flops inputs values input byte) r ⌝ }
-{
-    pack_answer(edits::edit_input(file, contents, flops, inputs, values, input, byte))
-}
-
-// Sets a table's contents, and recomputes the signals that depend on them. The table is numbered as its word.
-#[no_mangle]
-pub extern "C" fn qm_edit_table(
+// Makes the edits of a list in words.
+fn edit_listed(
     file: &[u8],
     contents: &mut [u64],
     flops: &[u8],
-    inputs: &[u8],
+    inputs: &mut [u8],
     values: &mut [u8],
-    table: usize,
-    word: u64,
+    words: [u64; LIST_WORDS],
+    count: usize,
 ) -> u64
-    ensures { λ r. ⌜ Answered (EditsTable file contents flops inputs values table word) r ⌝ }
+    ensures { λ r. ⌜ Answered (Edits file contents flops inputs values (editsIn words count)) r ⌝ }
 {
-    pack_answer(edits::edit_table(file, contents, flops, inputs, values, table, word))
+    pack_answer(edits::edit(file, contents, flops, inputs, values, words, count))
+}
+
+// Makes the edits of a list one after another, and recomputes the signals that depend on any of their changes.
+#[no_mangle]
+pub extern "C" fn qm_edit(
+    file: &[u8],
+    contents: &mut [u64],
+    flops: &[u8],
+    inputs: &mut [u8],
+    values: &mut [u8],
+    edits: &[Edit],
+) -> u64
+    ensures { λ r. ⌜ Answered (Edits file contents flops inputs values (now (edits .entry))) r ⌝ }
+{
+    let words = editlist::list_edits(edits);
+    edit_listed(file, contents, flops, inputs, values, words, edits.len())
 }
 
 // Reads a record, and fills a body with its fields.

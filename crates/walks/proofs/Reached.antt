@@ -7,7 +7,7 @@ use native.Mathlib.Decide.{ℕ-discrete, decLt}
 use native.Mathlib.Omega.{arith}
 use borrow.Author.Tests.{eq-eqb, ne-eqb, lt-ltb, le-ltb, lt-leb, le-leb}
 use lib.Dec.{eqb, ltb, leb}
-use lib.ListN.{set, replicate, length-replicate}
+use lib.ListN.{length, set, replicate}
 use lib.Seq.{getD-set-same, getD-set-other}
 use Rattle.netlist.specs.declared.Source.{Source}
 use Rattle.netlist.specs.declared.Source.the-variants.{Constant, Input, Signal}
@@ -27,6 +27,10 @@ or-middle : (a b c : Bool) → (a || (b || c)) ≡ (b || (a || c))
 or-middle true true c = refl
 or-middle true false c = refl
 or-middle false b c = refl
+
+or-swap : (a b c d : Bool) → ((a || b) || (c || d)) ≡ ((a || c) || (b || d))
+or-swap true b c d = refl
+or-swap false b c d = or-middle b c d
 
 -- the tests of a number, by its place among the wires
 pub number-tests :
@@ -77,38 +81,11 @@ reached-by-sources inputs tables signals gate =
 pub no-mark : (m k : ℕ) → isMarked (replicate m 0) k ≡ false
 no-mark m k = ap (λ (v : ℕ). ltb 0 v) (zeros-at m k)
 
--- one is set among zeros
-one-mark : (m j : ℕ) → j < m → (k : ℕ) → isMarked (set (replicate m 0) j 1) k ≡ eqb k j
-one-mark m j h k = go (ℕ-discrete k j)
-  where
-    go : Dec (k ≡ j) → isMarked (set (replicate m 0) j 1) k ≡ eqb k j
-    go (yes e) =
-        ap (λ (i : ℕ). isMarked (set (replicate m 0) j 1) i) e
-        ∙ ap (λ (v : ℕ). ltb 0 v) (getD-set-same (replicate m 0) j 1 0 (simp length-replicate h))
-        ∙ sym (eq-eqb k j e)
-    go (no n) = ap (λ (v : ℕ). ltb 0 v) (getD-set-other (replicate m 0) j k 1 0 n) ∙ no-mark m k ∙ sym (ne-eqb k j n)
-
--- where one input is marked, a source is reached where it is that input
-inputs-one : (m j : ℕ) → j < m → (ss : List Source) → anySource (sourceReached (set (replicate m 0) j 1) []) ss ≡ anySource (isInput j) ss
-inputs-one m j h [] = refl
-inputs-one m j h (Constant b ∷ ss) = inputs-one m j h ss
-inputs-one m j h (Input k ∷ ss) = or-both (one-mark m j h k) (inputs-one m j h ss)
-inputs-one m j h (Signal y ∷ ss) = inputs-one m j h ss
-
 inputs-none : (m : ℕ) (ss : List Source) → anySource (sourceReached (replicate m 0) []) ss ≡ false
 inputs-none m [] = refl
 inputs-none m (Constant b ∷ ss) = inputs-none m ss
 inputs-none m (Input k ∷ ss) = or-both (no-mark m k) (inputs-none m ss)
 inputs-none m (Signal y ∷ ss) = inputs-none m ss
-
--- where one table is marked, a gate belongs to a marked table where it belongs to that one
-tables-one : (t u : ℕ) → u < t → (gate : Gate) → tableMarked (set (replicate t 0) u 1) gate ≡ touchesTable u gate
-tables-one t u h (Lut v p1 p2 p3 p4 p5 p6) = one-mark t u h v
-tables-one t u h (ZeroOf v) = one-mark t u h v
-tables-one t u h (Select s one none) = refl
-tables-one t u h (Xor a b) = refl
-tables-one t u h (Same a) = refl
-tables-one t u h (Stored k) = refl
 
 tables-none : (t : ℕ) (gate : Gate) → tableMarked (replicate t 0) gate ≡ false
 tables-none t (Lut v p1 p2 p3 p4 p5 p6) = no-mark t v
@@ -118,13 +95,49 @@ tables-none t (Xor a b) = refl
 tables-none t (Same a) = refl
 tables-none t (Stored k) = refl
 
--- marking one input and no table is the change of that input
-pub marks-one-input : (m t j : ℕ) → j < m → (gate : Gate) → touchesMarked (set (replicate m 0) j 1) (replicate t 0) gate ≡ touchesInput j gate
-unfolding touchesMarked touchesInput
-marks-one-input m t j h gate =
-    or-both (inputs-one m j h (sourcesOf gate)) (tables-none t gate) ∙ or-false (anySource (isInput j) (sourcesOf gate))
-
--- marking one table and no input is the change of its contents
-pub marks-one-table : (m t u : ℕ) → u < t → (gate : Gate) → touchesMarked (replicate m 0) (set (replicate t 0) u 1) gate ≡ touchesTable u gate
+-- marking nothing is no change
+pub marks-none : (m t : ℕ) (gate : Gate) → touchesMarked (replicate m 0) (replicate t 0) gate ≡ false
 unfolding touchesMarked
-marks-one-table m t u h gate = or-both (inputs-none m (sourcesOf gate)) (tables-one t u h gate)
+marks-none m t gate = or-both (inputs-none m (sourcesOf gate)) (tables-none t gate)
+
+-- one mark more
+mark-more : (marks : List ℕ) (j : ℕ) → j < length marks → (k : ℕ) → isMarked (set marks j 1) k ≡ (eqb k j || isMarked marks k)
+mark-more marks j h k = go (ℕ-discrete k j)
+  where
+    go : Dec (k ≡ j) → isMarked (set marks j 1) k ≡ (eqb k j || isMarked marks k)
+    go (yes e) = rw (e, getD-set-same marks j 1 0 h, eq-eqb j j refl)
+    go (no n) = rw (getD-set-other marks j k 1 0 n, ne-eqb k j n)
+
+module _ (marks : List ℕ) (j : ℕ) (h : j < length marks) where
+  inputs-more :
+      (ss : List Source) → anySource (sourceReached (set marks j 1) []) ss ≡ (anySource (isInput j) ss || anySource (sourceReached marks []) ss)
+  inputs-more [] = refl
+  inputs-more (Constant b ∷ ss) = inputs-more ss
+  inputs-more (Input k ∷ ss) = or-both (mark-more marks j h k) (inputs-more ss) ∙ or-swap (eqb k j) (isMarked marks k) _ _
+  inputs-more (Signal y ∷ ss) = inputs-more ss
+
+  tables-more : (gate : Gate) → tableMarked (set marks j 1) gate ≡ (touchesTable j gate || tableMarked marks gate)
+  tables-more (Lut v p1 p2 p3 p4 p5 p6) = mark-more marks j h v
+  tables-more (ZeroOf v) = mark-more marks j h v
+  tables-more (Select s one none) = refl
+  tables-more (Xor a b) = refl
+  tables-more (Same a) = refl
+  tables-more (Stored k) = refl
+
+-- marking an input adds the change of that input
+pub mark-input :
+    (changed edited : List ℕ) (j : ℕ) → j < length changed → (gate : Gate)
+    → touchesMarked (set changed j 1) edited gate ≡ (touchesInput j gate || touchesMarked changed edited gate)
+unfolding touchesMarked touchesInput
+mark-input changed edited j h gate =
+    ap (λ (b : Bool). b || tableMarked edited gate) (inputs-more changed j h (sourcesOf gate))
+    ∙ or-assoc (anySource (isInput j) (sourcesOf gate)) (anySource (sourceReached changed []) (sourcesOf gate)) (tableMarked edited gate)
+
+-- marking a table adds the change of its contents
+pub mark-table :
+    (changed edited : List ℕ) (t : ℕ) → t < length edited → (gate : Gate)
+    → touchesMarked changed (set edited t 1) gate ≡ (touchesTable t gate || touchesMarked changed edited gate)
+unfolding touchesMarked
+mark-table changed edited t h gate =
+    ap (λ (b : Bool). anySource (sourceReached changed []) (sourcesOf gate) || b) (tables-more edited t h gate)
+    ∙ or-middle (anySource (sourceReached changed []) (sourcesOf gate)) (touchesTable t gate) (tableMarked edited gate)
