@@ -23,9 +23,6 @@ count-there n {i} h = by (ltb editLimit n) refl h
     by false e l = (l, omega (arith, ltb-false editLimit n e))
 
 module _ (words : List ℕ) (long : length words ≡ listLength) (i : ℕ) (few : i < editLimit) (e : Edit) where
-  pub with-long : length (withEdit words i e) ≡ listLength
-  with-long = rw (length-set, length-set, length-set) long
-
   abbrev one : List ℕ
   one = set words (3 * i) (e .kind)
 
@@ -33,7 +30,7 @@ module _ (words : List ℕ) (long : length words ≡ listLength) (i : ℕ) (few 
   two = set one (3 * i + 1) (e .number)
 
   -- edit i is there
-  pub with-same : editAt (withEdit words i e) i ≡ e
+  with-same : editAt (withEdit words i e) i ≡ e
   with-same = λ t. edit (kind t) (number t) (value t)
     where
       kind : getD (withEdit words i e) (3 * i) 0 ≡ e .kind
@@ -50,7 +47,7 @@ module _ (words : List ℕ) (long : length words ≡ listLength) (i : ℕ) (few 
       value = getD-set-same two (3 * i + 2) (e .value) 0 (rw (length-set, length-set) (omega arith))
 
   -- another is as it was
-  pub with-apart : (j : ℕ) → (j ≡ i → ⊥) → editAt (withEdit words i e) j ≡ editAt words j
+  with-apart : (j : ℕ) → (j ≡ i → ⊥) → editAt (withEdit words i e) j ≡ editAt words j
   with-apart j ne = λ t. edit (same (3 * j) (omega arith) t) (same (3 * j + 1) (omega arith) t) (same (3 * j + 2) (omega arith) t)
     where
       same : (c : ℕ) → c / 3 ≡ j → getD (withEdit words i e) c 0 ≡ getD words c 0

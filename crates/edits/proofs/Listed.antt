@@ -29,17 +29,15 @@ module _ (file : List ℕ) (before after : Env) (es : List Edit) (words old new 
   few e l = edits-all words es (subst (λ (k : ℕ). Listed es k words) (ap (λ (t : Bool). cond t 0 (length es)) e) l)
 
   -- and one that is too long is refused for that
+  bad-alike : ltb editLimit (length es) ≡ true → (n m : ℕ) → badEdits (badTable file n) m es ≡ badEdits (badTable file n) m listed
+  bad-alike e n m = too-long (badTable file n) m es e ∙ sym (too-long (badTable file n) m listed (rw (edits-long words 0 (length es)) e))
+
   many : ltb editLimit (length es) ≡ true → {r : Answer} → EditsMade file before after listed old new r → EditsMade file before after es old new r
   many e (judged j kept) = judged j kept
-  many e (refused {n} {m} j z kept) = refused j (ap (λ (b : Bool). editRefusal b file (stateIn before) (before .inputs) old n m) (over n m es e ∙ sym (over n m listed over-words)) ∙ z) kept
-    where
-      over : (n m : ℕ) (ds : List Edit) → ltb editLimit (length ds) ≡ true → badEdits (badTable file n) m ds ≡ true
-      over n m ds h = too-long (badTable file n) m ds h
-
-      over-words : ltb editLimit (length listed) ≡ true
-      over-words = rw (edits-long words 0 (length es)) e
+  many e (refused {n} {m} j z kept) =
+      refused j (ap (λ (b : Bool). editRefusal b file (stateIn before) (before .inputs) old n m) (bad-alike e n m) ∙ z) kept
   many e (done {n} {m} j z d) =
-      absurd (true≢false (sym (too-long (badTable file n) m listed (rw (edits-long words 0 (length es)) e)) ∙ edit-argument _ file (stateIn before) (before .inputs) old n m z))
+      absurd (true≢false (sym (too-long (badTable file n) m es e) ∙ bad-alike e n m ∙ edit-argument _ file (stateIn before) (before .inputs) old n m z))
 
   pub edits-listed : {r : Answer} → Listed es (listedCount (length es)) words → EditsMade file before after listed old new r → EditsMade file before after es old new r
   edits-listed {r} l c = by (ltb editLimit (length es)) refl

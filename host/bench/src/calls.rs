@@ -181,27 +181,17 @@ impl Bench {
             Call::Settle => column.settle(contents, flops, inputs, values),
             Call::Clock => column.clock(contents, flops, inputs, values),
             Call::EditInput => {
-                let edit = one_edit(0, (1 - inputs[0]).into());
+                let edit = Edit::new(0, 0, (1 - inputs[0]).into());
                 column.edit(contents, flops, inputs, values, &[edit])
             }
             Call::EditTable => {
-                let edit = one_edit(1, !contents[0]);
+                let edit = Edit::new(1, 0, !contents[0]);
                 column.edit(contents, flops, inputs, values, &[edit])
             }
             Call::PowerUp => column.power_up(contents, flops),
             _ => panic!("the second program has no call {call:?}"),
         };
         answer.is_ok()
-    }
-}
-
-/// An edit of the second program, of input 0 or table 0.
-fn one_edit(kind: u8, value: u64) -> Edit {
-    let number = 0;
-    Edit {
-        kind,
-        number,
-        value,
     }
 }
 
@@ -217,11 +207,14 @@ pub fn on_library(mut bench: Bench, call: Call) -> Box<dyn FnMut()> {
     })
 }
 
-/// A call of the library with a list of so many edits, to be timed. The same list each time: to set what is there is a change as well.
+/// A call of the library with a list of so many edits, to be timed: each time every input and table of it takes its other value.
 pub fn on_list(mut bench: Bench, count: usize) -> Box<dyn FnMut()> {
-    let edits = bench.edits(count);
+    let there = bench.edits(count);
+    let _ = bench.edit(&there);
+    let mut lists = [bench.edits(count), there];
     Box::new(move || {
-        let _ = black_box(bench.edit(&edits));
+        let _ = black_box(bench.edit(&lists[0]));
+        lists.swap(0, 1);
     })
 }
 

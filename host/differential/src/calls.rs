@@ -235,11 +235,7 @@ impl Model {
 
 /// An edit as the model takes it.
 fn edit(change: &Change) -> Edit {
-    Edit {
-        kind: change.kind,
-        number: change.number,
-        value: change.value,
-    }
+    Edit::new(change.kind, change.number, change.value)
 }
 
 fn refused(refusal: Refusal) -> Answer {

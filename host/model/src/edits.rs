@@ -13,6 +13,16 @@ pub struct Edit {
     pub value: u64,
 }
 
+impl Edit {
+    pub fn new(kind: u8, number: u64, value: u64) -> Edit {
+        Edit {
+            kind,
+            number,
+            value,
+        }
+    }
+}
+
 /// What an edit that passed its tests sets, and to what.
 #[derive(Clone, Copy, Debug, PartialEq, Eq)]
 pub enum Change {

@@ -14,21 +14,11 @@ struct Running {
 
 /// An edit of the input, and one of a table.
 fn input(number: u64, value: u64) -> Edit {
-    let kind = 0;
-    Edit {
-        kind,
-        number,
-        value,
-    }
+    Edit::new(0, number, value)
 }
 
 fn table(number: u64, value: u64) -> Edit {
-    let kind = 1;
-    Edit {
-        kind,
-        number,
-        value,
-    }
+    Edit::new(1, number, value)
 }
 
 impl Running {
@@ -106,12 +96,8 @@ fn edits_of_a_stale_table() {
 #[test]
 fn a_bad_edit_refuses_the_list() {
     let refused = |number| Err(Refusal { number, place: 0 });
-    let kind = Edit {
-        kind: 2,
-        ..table(0, 0)
-    };
     let bad = [
-        kind,
+        Edit::new(2, 0, 0),
         input(1, 0),
         input(1 << 32, 0),
         input(0, 2),
