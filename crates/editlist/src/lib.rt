@@ -2,6 +2,7 @@
 ghost use mathlib.Core.Path.{_≡_};
 ghost use Prim.Native.Nat.{_<_};
 ghost use lib.ListN.{length, getD};
+ghost use Rattle.lent.specs.Lent.{was, left};
 ghost use Rattle.editlist.specs.Listed.{editLimit, listLength, none, withEdit, listedCount, Listed};
 
 // The most edits of a list.
@@ -28,7 +29,7 @@ fn listed_count(len: usize) -> usize
 // Puts edit i into the words.
 fn put_edit(words: &mut [u64], i: usize, edit: Edit)
     requires { ⌜ (i < editLimit) × (length (now words) ≡ listLength) ⌝ }
-    ensures { λ _. ⌜ now (words .exit) ≡ withEdit (now (words .entry)) i edit ⌝ }
+    ensures { λ _. ⌜ left words ≡ withEdit (was words) i edit ⌝ }
 {
     let at = 3 * i;
     words[at] = edit.kind as u64;
@@ -39,7 +40,7 @@ fn put_edit(words: &mut [u64], i: usize, edit: Edit)
 // Takes edit i apart.
 fn edit_at(edits: &[Edit], i: usize) -> Edit
     requires { ⌜ i < length (now edits) ⌝ }
-    ensures { λ r. ⌜ r ≡ getD (now (edits .entry)) i none ⌝ }
+    ensures { λ r. ⌜ r ≡ getD (was edits) i none ⌝ }
 {
     Edit {
         kind: edits[i].kind,
@@ -50,7 +51,7 @@ fn edit_at(edits: &[Edit], i: usize) -> Edit
 
 // The words of a list of edits.
 pub fn list_edits(edits: &[Edit]) -> [u64; LIST_WORDS]
-    ensures { λ r. ⌜ Listed (now (edits .entry)) (listedCount (length (now (edits .entry)))) r ⌝ }
+    ensures { λ r. ⌜ Listed (was edits) (listedCount (length (was edits))) r ⌝ }
 {
     let end = listed_count(edits.len());
     let mut words = [0u64; LIST_WORDS];

@@ -77,7 +77,17 @@ EditsPlanned plan n m before after es old new =
     Planned (planRefusal plan n m before es old) ((after ≡ before) × (new ≡ old))
     ((after ≡ changedBy before (changesOf es)) × EditedPlan plan n (changesOf es) after old new)
 
--- the call's promise on lent buffers, as they were and as they are left
+-- the two promises on lent buffers, as they were and as they are left
+abbrev pub envWas : Lent → Lent → Lent → Env
+envWas contents flops inputs = env (was contents) (was flops) (was inputs)
+
+abbrev pub envLeft : Lent → Lent → Lent → Env
+envLeft contents flops inputs = env (left contents) (was flops) (left inputs)
+
 abbrev pub Edits : Lent → Lent → Lent → Lent → Lent → List Edit → Answer → Type 0
 Edits file contents flops inputs values es =
-    EditsMade (was file) (env (was contents) (was flops) (was inputs)) (env (left contents) (was flops) (left inputs)) es (was values) (left values)
+    EditsMade (was file) (envWas contents flops inputs) (envLeft contents flops inputs) es (was values) (left values)
+
+abbrev pub PlanEdits : Lent → ℕ → ℕ → Lent → Lent → Lent → Lent → List Edit → Answer → Type 0
+PlanEdits plan n m contents flops inputs values es =
+    EditsPlanned (was plan) n m (envWas contents flops inputs) (envLeft contents flops inputs) es (was values) (left values)

@@ -3,14 +3,13 @@ ghost use mathlib.Core.Path.{_≡_};
 ghost use mathlib.Core.List.{[], _∷_};
 ghost use Prim.Native.Nat.{_*_, _≤_};
 ghost use lib.ListN.{length};
-ghost use Rattle.lent.specs.Lent.{was, left};
-ghost use Rattle.netlist.specs.Rule.{env};
+ghost use Rattle.lent.specs.Lent.{was};
 ghost use Rattle.slicefile.specs.Format.{sliceLimit};
 ghost use Rattle.clocknumbers.specs.Numbers.{edgeLength};
 ghost use Rattle.editlist.specs.Listed.{editLimit, listLength, edit, editsIn};
 ghost use Rattle.plan.specs.Plan.{Runnable};
 ghost use Rattle.buffers.specs.Buffers.{badTableBy};
-ghost use Rattle.edits.specs.Edits.{changeOf, changesOf, badEdit, badEdits, EditsPlanned, Edits};
+ghost use Rattle.edits.specs.Edits.{changeOf, changesOf, badEdit, badEdits, Edits, PlanEdits};
 ghost use Rattle.edits.specs.Storing.{store, Marks, Storable, AllStorable, Stores};
 use column::Verdict;
 use editlist::EDIT_LIMIT;
@@ -120,8 +119,7 @@ fn edit_planned(
     count: usize,
 ) -> Answer
     requires { ⌜ Runnable n m (now plan) × (length (now words) ≡ listLength) ⌝ }
-    ensures { λ r. ⌜ EditsPlanned (was plan) n m (env (was contents) (was flops) (was inputs)) (env (left contents) (was flops) (left inputs))
-        (editsIn (was words) count) (was values) (left values) r ⌝ }
+    ensures { λ r. ⌜ PlanEdits plan n m contents flops inputs values (editsIn (was words) count) r ⌝ }
 {
     let edges = plan::edges(plan, n);
     let bad = bad_edits(edges, n, m, words, count);

@@ -13,8 +13,8 @@ Held = RefT (List ℕ)
 abbrev pub Lent : Type 0
 Lent = Both Held Held
 
-abbrev pub was : Lent → List ℕ
+abbrev pub was : {D : Type 0} → Both (RefT (List D)) (RefT (List D)) → List D
 was s = s .entry .now
 
-abbrev pub left : Lent → List ℕ
+abbrev pub left : {D : Type 0} → Both (RefT (List D)) (RefT (List D)) → List D
 left s = s .exit .now

@@ -124,7 +124,7 @@ pub extern "C" fn qm_edit(
     values: &mut [u8],
     edits: &[Edit],
 ) -> u64
-    ensures { λ r. ⌜ Answered (Edits file contents flops inputs values (now (edits .entry))) r ⌝ }
+    ensures { λ r. ⌜ Answered (Edits file contents flops inputs values (was edits)) r ⌝ }
 {
     let words = editlist::list_edits(edits);
     edit_listed(file, contents, flops, inputs, values, words, edits.len())
