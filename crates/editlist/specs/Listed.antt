@@ -12,7 +12,7 @@ editLimit = 256
 
 -- three words an edit
 abbrev pub listLength : ℕ
-listLength = 768
+listLength = 3 * editLimit
 
 abbrev pub edit : ℕ → ℕ → ℕ → Edit
 edit kind number value = record { kind = kind; number = number; value = value }

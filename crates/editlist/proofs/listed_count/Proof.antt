@@ -1,6 +1,5 @@
 -- `editlist::listed_count` meets its contract. Assumes nothing.
 use borrow.Author.Tests.{lt-ltb, le-ltb}
-use Rattle.editlist.specs.Listed.{editLimit}
 use Rattle.editlist.proofs.listed_count.Statement.{statement}
 use Rattle.editlist.proofs.listed_count.Tie as tie
 

@@ -24,7 +24,7 @@ use sound.WpLaws.{FmC, fmOf, WpFn-mono}
 use denote.RattleType.{owns}
 use denote.Array.{Array, array-lawful}
 use denote.Laws.{Is, shows}
-use denote.Plain.{uint-makes, uint-lawful, uint-copy}
+use denote.Plain.{uint-makes, uint-lawful}
 use denote.Ref.{RefT}
 use denote.Slice.{sliceVal, ShrSlice, MutSlice, Room, finally, slice-vals, shr-slice-tells, mut-slice-tells, shr-slice-copy}
 use denote.Signature.{plain}
@@ -39,7 +39,7 @@ use denote.Triple.Table.{entered, cited}
 use denote.Triple.Walked.{says, Stays, stay-none-slice, gave-slice, walkOf, Walks, ends-at, walked, goes-none-slice, goes-gave-slice, walk-meets}
 use denote.Exit.{yes}
 use Rattle.column.specs.Clock.{stateOf, envOf}
-use Rattle.editlist.specs.Listed.{editsIn, listedCount, Listed}
+use Rattle.editlist.specs.Listed.{listLength, editsIn, listedCount, Listed}
 use Rattle.editlist.specs.declared.Edit.{Edit}
 use Rattle.editlist.proofs.Edit as T
 use Rattle.editlist.proofs.list_edits as list-edits
@@ -87,8 +87,8 @@ module _ {M : Type 1} (𝓤 : URA M) (H : Heap 𝓤) (A : Atoms 𝓤) (W : Given
   abbrev Flops : Fml
   Flops = ShrSlice (named 2) κ₂ u8 .own x₂ (val x₂ ∷ [])
 
-  abbrev List′ : Fml
-  List′ = ShrSlice (named 5) κ₅ T.the-row .own x₅ (val x₅ ∷ [])
+  abbrev Changes : Fml
+  Changes = ShrSlice (named 5) κ₅ T.the-row .own x₅ (val x₅ ∷ [])
 
   -- the tokens of the list, and of the buffers
   abbrev Token : Item 𝓤
@@ -100,8 +100,8 @@ module _ {M : Type 1} (𝓤 : URA M) (H : Heap 𝓤) (A : Atoms 𝓤) (W : Given
   abbrev to-list : ListEdits 𝓤 H A mem run .Ghost
   to-list = (((κ₅, tt), (q₅, tt), tt, (x₅, tt), (val x₅ ∷ [], tt)), tt)
 
-  goes-list : ent 𝓤 (⋆ 𝓤 H A (Token ∷ ‵ List′ ∷ [])) (ListEdits 𝓤 H A mem run .pre to-list)
-  goes-list = qed W (Token ∷ ‵ List′ ∷ []) ∵ nothing ! $ move ! (2 ∷ 0 ∷ []) $ fjoin ! $ move ! (1 ∷ 0 ∷ []) $ join ! $ frame ! $ done !
+  goes-list : ent 𝓤 (⋆ 𝓤 H A (Token ∷ ‵ Changes ∷ [])) (ListEdits 𝓤 H A mem run .pre to-list)
+  goes-list = qed W (Token ∷ ‵ Changes ∷ []) ∵ nothing ! $ move ! (2 ∷ 0 ∷ []) $ fjoin ! $ move ! (1 ∷ 0 ∷ []) $ join ! $ frame ! $ done !
 
   said-list : (zs : List ℕ) → ent 𝓤 (ensured 𝓤 H A list-edits.ended (list-edits.clauses 𝓤 H A mem run) (κ₅, tt) (x₅, tt) tt zs) (fact 𝓤 (Listed (x₅ .now) (listedCount (length (x₅ .now))) zs))
   said-list zs = exE 𝓤 _ (λ ws. snd∗ 𝓤 (sem 𝓤 H A (lasts list-edits.ended (κ₅, tt) (x₅, tt) ws)) (fact 𝓤 (Listed (x₅ .now) (listedCount (length (x₅ .now))) zs)))
@@ -122,17 +122,17 @@ module _ {M : Type 1} (𝓤 : URA M) (H : Heap 𝓤) (A : Atoms 𝓤) (W : Given
     abbrev to-edit : EditListed 𝓤 H A mem run .Ghost
     to-edit = (((κ₀, (κ₁, (κ₂, (κ₃, (κ₄, tt))))), (q₀, (q₁, (q₂, (q₃, (q₄, tt))))), tt, (x₀, (x₁, (x₂, (x₃, (x₄, (zs, (length (x₅ .now), tt))))))), (val x₀ ∷ [], (val x₁ ∷ [], (val x₂ ∷ [], (val x₃ ∷ [], (val x₄ ∷ [], (w ∷ [], (vint w64 (length (x₅ .now)) ∷ [], tt)))))))), tt)
 
-    abbrev Given′ : Fml
-    Given′ = owns (ShrSlice (named 0) κ₀ u8 ∷ MutSlice (named 1) κ₁ u64 ∷ ShrSlice (named 2) κ₂ u8 ∷ MutSlice (named 3) κ₃ u8 ∷ MutSlice (named 4) κ₄ u8 ∷ Array u64 768 ∷ usize ∷ [])
+    abbrev Handed : Fml
+    Handed = owns (ShrSlice (named 0) κ₀ u8 ∷ MutSlice (named 1) κ₁ u64 ∷ ShrSlice (named 2) κ₂ u8 ∷ MutSlice (named 3) κ₃ u8 ∷ MutSlice (named 4) κ₄ u8 ∷ Array u64 listLength ∷ usize ∷ [])
         (x₀, (x₁, (x₂, (x₃, (x₄, (zs, (length (x₅ .now), tt))))))) (val x₀ ∷ [], (val x₁ ∷ [], (val x₂ ∷ [], (val x₃ ∷ [], (val x₄ ∷ [], (w ∷ [], (vint w64 (length (x₅ .now)) ∷ [], tt)))))))
 
-    goes-edit : ent 𝓤 (⋆ 𝓤 H A (Tokens ∷ ‵ Given′ ∷ [])) (EditListed 𝓤 H A mem run .pre to-edit)
-    goes-edit = qed W (Tokens ∷ ‵ Given′ ∷ []) ∵ join ! $ frame ! $ done !
+    goes-edit : ent 𝓤 (⋆ 𝓤 H A (Tokens ∷ ‵ Handed ∷ [])) (EditListed 𝓤 H A mem run .pre to-edit)
+    goes-edit = qed W (Tokens ∷ ‵ Handed ∷ []) ∵ join ! $ frame ! $ done !
 
     exits : (r : ℕ) (v : Val) (ls : Lasts) → Did (x₅ .now) ls r → length (ls .1 .0) ≡ length (x₁ .now) → length (ls .1 .1 .1 .0) ≡ length (x₃ .now) → length (ls .1 .1 .1 .1 .0) ≡ length (x₄ .now)
-        → ent 𝓤 (⋆ 𝓤 H A (Tokens ∷ Token ∷ ‵ File ∷ ‵ Flops ∷ ‵ List′ ∷ ‵ (finally u64 (x₁ .name) (ls .1 .0)) ∷ ‵ (finally u8 (x₃ .name) (ls .1 .1 .1 .0)) ∷ ‵ (finally u8 (x₄ .name) (ls .1 .1 .1 .1 .0)) ∷ ‵ (u64 .own r (v ∷ [])) ∷ [])) (Post v)
+        → ent 𝓤 (⋆ 𝓤 H A (Tokens ∷ Token ∷ ‵ File ∷ ‵ Flops ∷ ‵ Changes ∷ ‵ (finally u64 (x₁ .name) (ls .1 .0)) ∷ ‵ (finally u8 (x₃ .name) (ls .1 .1 .1 .0)) ∷ ‵ (finally u8 (x₄ .name) (ls .1 .1 .1 .1 .0)) ∷ ‵ (u64 .own r (v ∷ [])) ∷ [])) (Post v)
     exits r v ls e k₁ k₃ k₄ =
-        qed W (Tokens ∷ Token ∷ ‵ File ∷ ‵ Flops ∷ ‵ List′ ∷ ‵ (finally u64 (x₁ .name) (ls .1 .0)) ∷ ‵ (finally u8 (x₃ .name) (ls .1 .1 .1 .0)) ∷ ‵ (finally u8 (x₄ .name) (ls .1 .1 .1 .1 .0)) ∷ ‵ (u64 .own r (v ∷ [])) ∷ []) ∵
+        qed W (Tokens ∷ Token ∷ ‵ File ∷ ‵ Flops ∷ ‵ Changes ∷ ‵ (finally u64 (x₁ .name) (ls .1 .0)) ∷ ‵ (finally u8 (x₃ .name) (ls .1 .1 .1 .0)) ∷ ‵ (finally u8 (x₄ .name) (ls .1 .1 .1 .1 .0)) ∷ ‵ (u64 .own r (v ∷ [])) ∷ []) ∵
         suffices ! _ (ends-at 𝓤 H A f.ended stayed (f.clauses 𝓤 H A mem run) W
         (((κ₀, (κ₁, (κ₂, (κ₃, (κ₄, (κ₅, tt)))))), (q₀, (q₁, (q₂, (q₃, (q₄, (q₅, tt)))))), tt, (x₀, (x₁, (x₂, (x₃, (x₄, (x₅, tt)))))), (val x₀ ∷ [], (val x₁ ∷ [], (val x₂ ∷ [], (val x₃ ∷ [], (val x₄ ∷ [], (val x₅ ∷ [], tt))))))), tt)
         v r (tt, (ls .1 .0, (tt, (ls .1 .1 .1 .0, (ls .1 .1 .1 .1 .0, (tt, tt)))))) (tt, (k₁, (tt, (k₃, (k₄, (tt, tt))))))) $ says ! e $
@@ -158,14 +158,14 @@ module _ {M : Type 1} (𝓤 : URA M) (H : Heap 𝓤) (A : Atoms 𝓤) (W : Given
         move ! (37 ∷ []) $ split ! $ move ! (1 ∷ []) $ split ! $ move ! (1 ∷ []) $ split ! $ move ! (1 ∷ []) $ split ! $ move ! (1 ∷ []) $ split ! $
         keep ! (13 ∷ 14 ∷ 15 ∷ 16 ∷ 17 ∷ 18 ∷ 19 ∷ 20 ∷ 21 ∷ 22 ∷ 23 ∷ 24 ∷ 25 ∷ 26 ∷ 27 ∷ 28 ∷ 29 ∷ 30 ∷ 31 ∷ 32 ∷ 33 ∷ 34 ∷ 35 ∷ 36 ∷ 37 ∷ 38 ∷ 39 ∷ 40 ∷ 41 ∷ 42 ∷ 5 ∷ 4 ∷ 3 ∷ 2 ∷ 0 ∷ 1 ∷ 12 ∷ 11 ∷ 10 ∷ 9 ∷ 8 ∷ 6 ∷ []) $
         -- `list_edits`
-        move ! (41 ∷ []) $ use1 W (‵ List′ ⊛ ‵ List′) (shr-slice-copy 𝓤 H A W (named 5) κ₅ T.the-row .twice x₅ (val x₅ ∷ [])) $ split ! $
+        move ! (41 ∷ []) $ use1 W (‵ Changes ⊛ ‵ Changes) (shr-slice-copy 𝓤 H A W (named 5) κ₅ T.the-row .twice x₅ (val x₅ ∷ [])) $ split ! $
         move ! (37 ∷ 0 ∷ []) $ use2 W (raw (ListEdits 𝓤 H A mem run .pre to-list)) goes-list $
         calls-at ! fm (ListEdits 𝓤 H A mem run) known-list to-list (and-then ! (load ! (from ! (stop !)) (look ! 18 refl)) (no-more !)) (λ w.
-        use1 W (later (some (λ (zs : List ℕ). (Token ⊛ ‵ (Array u64 768 .own zs (w ∷ []))) ⊛ raw (ensured 𝓤 H A list-edits.ended (list-edits.clauses 𝓤 H A mem run) (κ₅, tt) (x₅, tt) tt zs)))) (id⊢ 𝓤 _) $ await ! tt $ pick ! (λ zs.
+        use1 W (later (some (λ (zs : List ℕ). (Token ⊛ ‵ (Array u64 listLength .own zs (w ∷ []))) ⊛ raw (ensured 𝓤 H A list-edits.ended (list-edits.clauses 𝓤 H A mem run) (κ₅, tt) (x₅, tt) tt zs)))) (id⊢ 𝓤 _) $ await ! tt $ pick ! (λ zs.
         split ! $ move ! (1 ∷ []) $ use1 W (raw (fact 𝓤 (Listed (x₅ .now) (listedCount (length (x₅ .now))) zs))) (said-list zs) $ heard ! (Listed (x₅ .now) (listedCount (length (x₅ .now))) zs) (λ e₁. split ! $ move ! (1 ∷ []) $
-        peeks ! (Array u64 768) (Is (Array u64 768)) (shows 𝓤 H A (Array u64 768)) zs (w ∷ []) (λ is₁.
+        peeks ! (Array u64 listLength) (Is (Array u64 listLength)) (shows 𝓤 H A (Array u64 listLength)) zs (w ∷ []) (λ is₁.
         -- [what the words own; the list's token; what it owns; the locals; the tokens; what the five own]
-        land ! (from ! (stop !)) (init ! 17 refl (array-lawful 𝓤 H A W u64 (uint-lawful 𝓤 H A W w64) 768 .typed zs _ is₁ .0)) $
+        land ! (from ! (stop !)) (init ! 17 refl (array-lawful 𝓤 H A W u64 (uint-lawful 𝓤 H A W w64) listLength .typed zs _ is₁ .0)) $
         assigns ! (addr ! (from ! (fld ! refl (hop ! (look-in ! 27 (sub ! 0 refl (whole !))) (stop !))))) (from ! (stop !)) (init ! 15 refl (tt, tt)) $
         assigns ! (agg ! (and-then ! (load ! (from ! (stop !)) (look ! 15 refl)) (and-then ! (load ! (from ! (fld ! refl (stop !))) (look-in ! 27 (sub ! 1 refl (whole !)))) (no-more !)))) (from ! (stop !)) (init ! 13 refl (tt, (tt, (record { fits = g₁ .0 }, tt)))) $
         assigns ! (addr ! (from ! (fld ! refl (hop ! (look-in ! 23 (sub ! 0 refl (whole !))) (stop !))))) (from ! (stop !)) (init ! 11 refl (tt, tt)) $
