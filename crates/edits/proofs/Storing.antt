@@ -22,7 +22,7 @@ use Rattle.edits.specs.Edits.{changeOf, changesOf, badChange, anyBad, ba
 use Rattle.edits.specs.Storing.{Store, store, Storable, AllStorable, Stored}
 
 -- no change
-pub none-stored : (s : Store) → Stored [] s s
+none-stored : (s : Store) → Stored [] s s
 none-stored s = record { made = λ flops. refl; marked = λ gate. refl }
 
 -- one
@@ -36,7 +36,7 @@ module _ (contents inputs changed edited : List ℕ) where
       record { made = λ flops. refl; marked = λ gate. mark-table changed edited t h gate ∙ ap (λ (t : Bool). t || touchesMarked changed edited gate) (sym (or-false (touchesTable t gate))) }
 
 -- one before others
-pub then-stored : {c : Change} {cs : List Change} {a b d : Store} → Stored (c ∷ []) a b → Stored cs b d → Stored (c ∷ cs) a d
+then-stored : {c : Change} {cs : List Change} {a b d : Store} → Stored (c ∷ []) a b → Stored cs b d → Stored (c ∷ cs) a d
 then-stored {c} {cs} {a} s t =
     record {
       made = λ flops. t .made flops ∙ ap (λ (e : Env). changedBy e cs) (s .made flops);
@@ -78,10 +78,10 @@ pub record Alike (a b : Store) : Type 0 where
   pub changed : length (b .changed) ≡ length (a .changed)
   pub edited : length (b .edited) ≡ length (a .edited)
 
-pub alike : (s : Store) → Alike s s
+alike : (s : Store) → Alike s s
 alike s = record { contents = refl; inputs = refl; changed = refl; edited = refl }
 
-pub alike-then : {a b d : Store} → Alike a b → Alike b d → Alike a d
+alike-then : {a b d : Store} → Alike a b → Alike b d → Alike a d
 alike-then s t = record { contents = t .contents ∙ s .contents; inputs = t .inputs ∙ s .inputs; changed = t .changed ∙ s .changed; edited = t .edited ∙ s .edited }
 
 -- before edit i of words: those that are left are storable, and where they are stored, all are
