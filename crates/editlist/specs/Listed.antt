@@ -10,9 +10,12 @@ use Rattle.editlist.specs.declared.Edit.{Edit}
 abbrev pub editLimit : ℕ
 editLimit = 256
 
--- three words an edit
+-- the words of an edit: its kind, its number, its value
+abbrev pub editWords : ℕ
+editWords = 3
+
 abbrev pub listLength : ℕ
-listLength = 3 * editLimit
+listLength = editWords * editLimit
 
 abbrev pub edit : ℕ → ℕ → ℕ → Edit
 edit kind number value = record { kind = kind; number = number; value = value }
@@ -23,10 +26,10 @@ none = edit 0 0 0
 
 -- edit i of the words, and the words with edit i put into them
 abbrev pub editAt : List ℕ → ℕ → Edit
-editAt words i = edit (getD words (3 * i) 0) (getD words (3 * i + 1) 0) (getD words (3 * i + 2) 0)
+editAt words i = edit (getD words (editWords * i) 0) (getD words (editWords * i + 1) 0) (getD words (editWords * i + 2) 0)
 
 abbrev pub withEdit : List ℕ → ℕ → Edit → List ℕ
-withEdit words i e = set (set (set words (3 * i) (e .kind)) (3 * i + 1) (e .number)) (3 * i + 2) (e .value)
+withEdit words i e = set (set (set words (editWords * i) (e .kind)) (editWords * i + 1) (e .number)) (editWords * i + 2) (e .value)
 
 -- the k edits of the words from edit i on
 abbrev pub editsFrom : List ℕ → ℕ → ℕ → List Edit

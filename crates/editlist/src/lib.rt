@@ -1,4 +1,4 @@
-// A lent list of edits, taken apart into words: three an edit, its kind, its number and its value.
+// A lent list of edits, taken apart into words.
 ghost use mathlib.Core.Path.{_≡_};
 ghost use Prim.Native.Nat.{_<_};
 ghost use lib.ListN.{length, getD};
@@ -8,8 +8,11 @@ ghost use Rattle.editlist.specs.Listed.{editLimit, listLength, none, wit
 // The most edits of a list.
 pub const EDIT_LIMIT: usize = 256;
 
+// The words of an edit: its kind, its number, its value.
+pub const EDIT_WORDS: usize = 3;
+
 // The words of the longest list.
-pub const LIST_WORDS: usize = 3 * EDIT_LIMIT;
+pub const LIST_WORDS: usize = EDIT_WORDS * EDIT_LIMIT;
 
 // An edit as a host lends it: kind 0 sets outside input `number` to `value`, kind 1 the contents of table `number`.
 #[repr(C)]
@@ -31,7 +34,7 @@ fn put_edit(words: &mut [u64], i: usize, edit: Edit)
     requires { ⌜ (i < editLimit) × (length (now words) ≡ listLength) ⌝ }
     ensures { λ _. ⌜ left words ≡ withEdit (was words) i edit ⌝ }
 {
-    let at = 3 * i;
+    let at = EDIT_WORDS * i;
     words[at] = edit.kind as u64;
     words[at + 1] = edit.number;
     words[at + 2] = edit.value;

@@ -13,6 +13,7 @@ ghost use Rattle.edits.specs.Edits.{changeOf, changesOf, badEdit, badEdi
 ghost use Rattle.edits.specs.Storing.{store, Marks, Storable, AllStorable, Stores};
 use column::Verdict;
 use editlist::EDIT_LIMIT;
+use editlist::EDIT_WORDS;
 use editlist::LIST_WORDS;
 use plan::PLAN_LIMIT;
 use slicefile::Answer;
@@ -45,7 +46,7 @@ fn bad_edits(edges: &[u16], n: usize, m: usize, words: &[u64], count: usize) -> 
     let mut found = false;
     let mut i = 0;
     while i < count {
-        let at = 3 * i;
+        let at = EDIT_WORDS * i;
         found = found | bad_edit(edges, n, m, words[at], words[at + 1], words[at + 2]);
         i += 1;
     }
@@ -92,7 +93,7 @@ fn store_edits(
 {
     let mut i = 0;
     while i < count {
-        let at = 3 * i;
+        let at = EDIT_WORDS * i;
         store_edit(
             words[at],
             words[at + 1],
