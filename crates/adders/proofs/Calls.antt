@@ -9,8 +9,8 @@ use Rattle.adders.specs.Adders.{CarryChain, Addend, Adds}
 use Rattle.adders.proofs.Adders.{adders}
 
 module _ (file : List ℕ) {st : State} {inputs old new : List ℕ} {base h : ℕ} (chain : CarryChain file base h) (b : ℕ) (add : Addend file inputs new base h b) where
-  pub settle-adds : SettleCalled file st inputs old new Done → Adds file inputs new base h b
-  settle-adds (done _ _ settled) = adders file settled chain b add
+  pub settle_adds : SettleCalled file st inputs old new Done → Adds file inputs new base h b
+  settle_adds (done _ _ settled) = adders file settled chain b add
 
-  pub clock-adds : {moved : State} → ClockCalled file st moved inputs old new Done → Adds file inputs new base h b
-  clock-adds (done _ _ d) = adders file d.1 chain b add
+  pub clock_adds : {moved : State} → ClockCalled file st moved inputs old new Done → Adds file inputs new base h b
+  clock_adds (done _ _ d) = adders file d.1 chain b add

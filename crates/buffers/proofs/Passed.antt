@@ -8,33 +8,33 @@ use native.Mathlib.Omega.{arith}
 use lib.ListN.{length, get_or, get_or-eq_default}
 use Rattle.slicefile.proofs.Tests.{or_left, or_right}
 use Rattle.rules.specs.Rules.{given}
-use Rattle.rules.proofs.Refusals.{given-none, orElse-left, orElse-right}
+use Rattle.rules.proofs.Refusals.{given_none, or_else_left, or_else_right}
 use Rattle.evaluation.specs.Numbers.{Bits}
 use Rattle.column.specs.Clock.{State}
-use Rattle.buffers.specs.Buffers.{badLengths, badBytes, settleRefusalBy, editRefusalBy}
-use Rattle.buffers.proofs.Good.{good-bytes}
+use Rattle.buffers.specs.Buffers.{bad_lengths, bad_bytes, settle_refusal_by, edit_refusal_by}
+use Rattle.buffers.proofs.Good.{good_bytes}
 use Rattle.buffers.proofs.Lengths.{Lengths, lengths}
 
 -- bytes 0 and 1, and 0 past the end
-all-bits : (bytes : List ℕ) → badBytes bytes ≡ false → Bits bytes
-all-bits bytes e c = by (dec_lt c (length bytes))
+all_bits : (bytes : List ℕ) → bad_bytes bytes ≡ false → Bits bytes
+all_bits bytes e c = by (dec_lt c (length bytes))
   where
     by : Dec (c < length bytes) → get_or bytes c 0 < 2
-    by (yes h) = good-bytes bytes e c h
+    by (yes h) = good_bytes bytes e c h
     by (no h) =
         let past : length bytes ≤ c = omega arith in
         rw (get_or-eq_default bytes 0 past) (omega arith)
 
 module _ (words : Bool) (st : State) (inputs values : List ℕ) (n m : ℕ) where
-  pub settle-passed : settleRefusalBy words st inputs values n m ≡ 0 → Lengths n m st inputs values × Bits inputs
-  settle-passed e =
-      let z = given-none 10 _ (orElse-right (given 10 (badLengths n m st inputs values)) _ e) in
-      (lengths n m st inputs values (given-none 9 _ (orElse-left (given 10 (badLengths n m st inputs values)) _ e)), all-bits inputs (or_left (badBytes inputs) words z))
+  pub settle_passed : settle_refusal_by words st inputs values n m ≡ 0 → Lengths n m st inputs values × Bits inputs
+  settle_passed e =
+      let z = given_none 10 _ (or_else_right (given 10 (bad_lengths n m st inputs values)) _ e) in
+      (lengths n m st inputs values (given_none 9 _ (or_else_left (given 10 (bad_lengths n m st inputs values)) _ e)), all_bits inputs (or_left (bad_bytes inputs) words z))
 
-  pub edit-passed :
-      (bad : Bool) → editRefusalBy bad words st inputs values n m ≡ 0 → Lengths n m st inputs values × Bits inputs × Bits values × (bad ≡ false)
-  edit-passed bad e =
-      let z = given-none 10 _ (orElse-right (given 10 (badLengths n m st inputs values)) _ e) in
-      let w = or_left (badBytes inputs || badBytes values || words) bad z in
-      let b = or_left (badBytes inputs || badBytes values) words w in
-      (lengths n m st inputs values (given-none 9 _ (orElse-left (given 10 (badLengths n m st inputs values)) _ e)), all-bits inputs (or_left (badBytes inputs) (badBytes values) b), all-bits values (or_right (badBytes inputs) (badBytes values) b), or_right (badBytes inputs || badBytes values || words) bad z)
+  pub edit_passed :
+      (bad : Bool) → edit_refusal_by bad words st inputs values n m ≡ 0 → Lengths n m st inputs values × Bits inputs × Bits values × (bad ≡ false)
+  edit_passed bad e =
+      let z = given_none 10 _ (or_else_right (given 10 (bad_lengths n m st inputs values)) _ e) in
+      let w = or_left (bad_bytes inputs || bad_bytes values || words) bad z in
+      let b = or_left (bad_bytes inputs || bad_bytes values) words w in
+      (lengths n m st inputs values (given_none 9 _ (or_else_left (given 10 (bad_lengths n m st inputs values)) _ e)), all_bits inputs (or_left (bad_bytes inputs) (bad_bytes values) b), all_bits values (or_right (bad_bytes inputs) (bad_bytes values) b), or_right (bad_bytes inputs || bad_bytes values || words) bad z)

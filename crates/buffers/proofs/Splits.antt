@@ -4,9 +4,9 @@ use mathlib.Core.Bool.{Bool, true, false, ◌||◌}
 use mathlib.Core.List.{List}
 use Prim.Native.Nat.{ℕ}
 use Rattle.rules.specs.Rules.{given, ◌orElse◌}
-use Rattle.rules.proofs.Refusals.{orElse-first, orElse-second}
+use Rattle.rules.proofs.Refusals.{or_else_first, or_else_second}
 use Rattle.column.specs.Clock.{State}
-use Rattle.buffers.specs.Buffers.{badLengths, badBytes, settleRefusalBy, editRefusalBy}
+use Rattle.buffers.specs.Buffers.{bad_lengths, bad_bytes, settle_refusal_by, edit_refusal_by}
 
 split : (lengths inputs values words bad : Bool)
     → (given 10 lengths or_else given 11 (inputs || words)) or_else given 11 (values || bad) ≡ given 10 lengths or_else given 11 (inputs || values || words || bad)
@@ -17,14 +17,14 @@ split false false true false bad = refl
 split false false false true bad = refl
 split false false false false bad = refl
 
-module _ (bad words : Bool) (st : State) (inputs values : List ℕ) (n m : ℕ) {number : ℕ} (e : number ≡ settleRefusalBy words st inputs values n m) where
-  edit-splits : number or_else given 11 (badBytes values || bad) ≡ editRefusalBy bad words st inputs values n m
-  edit-splits =
-      ap (λ (k : ℕ). k or_else given 11 (badBytes values || bad)) e
-      ∙ split (badLengths n m st inputs values) (badBytes inputs) (badBytes values) words bad
+module _ (bad words : Bool) (st : State) (inputs values : List ℕ) (n m : ℕ) {number : ℕ} (e : number ≡ settle_refusal_by words st inputs values n m) where
+  edit_splits : number or_else given 11 (bad_bytes values || bad) ≡ edit_refusal_by bad words st inputs values n m
+  edit_splits =
+      ap (λ (k : ℕ). k or_else given 11 (bad_bytes values || bad)) e
+      ∙ split (bad_lengths n m st inputs values) (bad_bytes inputs) (bad_bytes values) words bad
 
-  pub edit-first : (number ≡ 0 → ⊥) → number ≡ editRefusalBy bad words st inputs values n m
-  edit-first some = orElse-first number _ some ∙ edit-splits
+  pub edit_first : (number ≡ 0 → ⊥) → number ≡ edit_refusal_by bad words st inputs values n m
+  edit_first some = or_else_first number _ some ∙ edit_splits
 
-  pub edit-second : number ≡ 0 → (t : Bool) → badBytes values || bad ≡ t → given 11 t ≡ editRefusalBy bad words st inputs values n m
-  edit-second none t same = rw (← same) (orElse-second number _ none ∙ edit-splits)
+  pub edit_second : number ≡ 0 → (t : Bool) → bad_bytes values || bad ≡ t → given 11 t ≡ edit_refusal_by bad words st inputs values n m
+  edit_second none t same = rw (← same) (or_else_second number _ none ∙ edit_splits)

@@ -1,75 +1,75 @@
 -- Refusals 10 and 11: what is wrong with the buffers and arguments lent to a call, for a file of n slices and m outside inputs.
 use Rattle.std.specs.Prelude.{ℕ, ◌+◌, ◌*◌, ◌/◌, ◌%◌, ◌^◌, ◌≡◌, Bool, false, not, ◌&&◌, ◌||◌, List, eqb, ltb, leb, length, get_or}
-use Rattle.netlist.specs.Table.{signalCount}
-use Rattle.slicefile.specs.Lists.{anyBelow}
+use Rattle.netlist.specs.Table.{signal_count}
+use Rattle.slicefile.specs.Lists.{any_below}
 use Rattle.slicefile.specs.Format.{mode}
 use Rattle.rules.specs.Rules.{given, ◌orElse◌}
-use Rattle.clocknumbers.specs.Numbers.{edgeLength, kindPlace}
+use Rattle.clocknumbers.specs.Numbers.{edge_length, kind_place}
 use Rattle.column.specs.Clock.{State}
-use Rattle.column.specs.File.{sliceBody}
+use Rattle.column.specs.File.{slice_body}
 
 -- "a buffer of another length than named": 4n words of contents, n flip-flop bytes
-unfoldable pub badState : ℕ → State → Bool
-badState n st = not (eqb (length st.contents) (4 * n)) || not (eqb (length st.flops) n)
+unfoldable pub bad_state : ℕ → State → Bool
+bad_state n st = not (eqb (length st.contents) (4 * n)) || not (eqb (length st.flops) n)
 
 -- besides these, m input bytes and 32n value bytes
-unfoldable pub badLengths : ℕ → ℕ → State → List ℕ → List ℕ → Bool
-badLengths n m st inputs values =
-    badState n st || not (eqb (length inputs) m) || not (eqb (length values) (signalCount n))
+unfoldable pub bad_lengths : ℕ → ℕ → State → List ℕ → List ℕ → Bool
+bad_lengths n m st inputs values =
+    bad_state n st || not (eqb (length inputs) m) || not (eqb (length values) (signal_count n))
 
 -- "an input or value byte not 0 or 1"
-unfoldable pub badBytes : List ℕ → Bool
-badBytes bytes = anyBelow (length bytes) (λ i. ltb 1 (get_or bytes i 0))
+unfoldable pub bad_bytes : List ℕ → Bool
+bad_bytes bytes = any_below (length bytes) (λ i. ltb 1 (get_or bytes i 0))
 
 -- "a word or new contents with bits 32-63 set in mode 2", of table t, numbered as its word
-unfoldable pub badWord : List ℕ → ℕ → ℕ → Bool
-badWord file t w = eqb (mode (sliceBody file (t / 4)) (t % 4)) 2 && leb (2 ^ 32) w
+unfoldable pub bad_word : List ℕ → ℕ → ℕ → Bool
+bad_word file t w = eqb (mode (slice_body file (t / 4)) (t % 4)) 2 && leb (2 ^ 32) w
 
-unfoldable pub badWords : List ℕ → List ℕ → Bool
-badWords file contents = anyBelow (length contents) (λ t. badWord file t (get_or contents t 0))
+unfoldable pub bad_words : List ℕ → List ℕ → Bool
+bad_words file contents = any_below (length contents) (λ t. bad_word file t (get_or contents t 0))
 
 -- settling and clocking, with words that are bad or not: "bytes that are only filled (values in settle and clock; all in power up) are not judged"
-abbrev pub settleRefusalBy : Bool → State → List ℕ → List ℕ → ℕ → ℕ → ℕ
-settleRefusalBy words st inputs values n m = given 10 (badLengths n m st inputs values) or_else given 11 (badBytes inputs || words)
+abbrev pub settle_refusal_by : Bool → State → List ℕ → List ℕ → ℕ → ℕ → ℕ
+settle_refusal_by words st inputs values n m = given 10 (bad_lengths n m st inputs values) or_else given 11 (bad_bytes inputs || words)
 
-unfoldable pub settleRefusal : List ℕ → State → List ℕ → List ℕ → ℕ → ℕ → ℕ
-settleRefusal file st inputs values n m = settleRefusalBy (badWords file st.contents) st inputs values n m
+unfoldable pub settle_refusal : List ℕ → State → List ℕ → List ℕ → ℕ → ℕ → ℕ
+settle_refusal file st inputs values n m = settle_refusal_by (bad_words file st.contents) st inputs values n m
 
 -- editing, with a list of edits and words that are bad or not
-abbrev pub editRefusalBy : Bool → Bool → State → List ℕ → List ℕ → ℕ → ℕ → ℕ
-editRefusalBy list words st inputs values n m =
-    given 10 (badLengths n m st inputs values) or_else given 11 (badBytes inputs || badBytes values || words || list)
+abbrev pub edit_refusal_by : Bool → Bool → State → List ℕ → List ℕ → ℕ → ℕ → ℕ
+edit_refusal_by list words st inputs values n m =
+    given 10 (bad_lengths n m st inputs values) or_else given 11 (bad_bytes inputs || bad_bytes values || words || list)
 
-unfoldable pub editRefusal : Bool → List ℕ → State → List ℕ → List ℕ → ℕ → ℕ → ℕ
-editRefusal list file st inputs values n m = editRefusalBy list (badWords file st.contents) st inputs values n m
+unfoldable pub edit_refusal : Bool → List ℕ → State → List ℕ → List ℕ → ℕ → ℕ → ℕ
+edit_refusal list file st inputs values n m = edit_refusal_by list (bad_words file st.contents) st inputs values n m
 
 -- "an outside input below m", and a byte 0 or 1 for it
-abbrev pub badInput : ℕ → ℕ → ℕ → Bool
-badInput m input byte = leb m input || ltb 1 byte
+abbrev pub bad_input : ℕ → ℕ → ℕ → Bool
+bad_input m input byte = leb m input || ltb 1 byte
 
 -- "a table, numbered as its word, below 4n", and contents that its mode allows
-abbrev pub badTable : List ℕ → ℕ → ℕ → ℕ → Bool
-badTable file n table word = leb (4 * n) table || badWord file table word
+abbrev pub bad_table : List ℕ → ℕ → ℕ → ℕ → Bool
+bad_table file n table word = leb (4 * n) table || bad_word file table word
 
 -- the same by the numbers of the slices' edges: kind 2 or 3 is shift mode
-abbrev pub kindIn : List ℕ → ℕ → ℕ
-kindIn edges t = get_or edges (edgeLength * (t / 4) + kindPlace + t % 4) 0
+abbrev pub kind_in : List ℕ → ℕ → ℕ
+kind_in edges t = get_or edges (edge_length * (t / 4) + kind_place + t % 4) 0
 
-abbrev pub badWordBy : List ℕ → ℕ → ℕ → Bool
-badWordBy edges t w = leb 2 (kindIn edges t) && leb (2 ^ 32) w
+abbrev pub bad_word_by : List ℕ → ℕ → ℕ → Bool
+bad_word_by edges t w = leb 2 (kind_in edges t) && leb (2 ^ 32) w
 
-unfoldable pub badWordsBy : List ℕ → List ℕ → Bool
-badWordsBy edges contents = anyBelow (length contents) (λ t. badWordBy edges t (get_or contents t 0))
+unfoldable pub bad_words_by : List ℕ → List ℕ → Bool
+bad_words_by edges contents = any_below (length contents) (λ t. bad_word_by edges t (get_or contents t 0))
 
-abbrev pub badTableBy : List ℕ → ℕ → ℕ → ℕ → Bool
-badTableBy edges n table word = leb (4 * n) table || badWordBy edges table word
+abbrev pub bad_table_by : List ℕ → ℕ → ℕ → ℕ → Bool
+bad_table_by edges n table word = leb (4 * n) table || bad_word_by edges table word
 
 -- what a call leaves for the next one on the file: a state, inputs and values that none of them refuses
 abbrev pub GoodState : List ℕ → ℕ → State → Type 0
-GoodState file n st = (badState n st ≡ false) × (badWords file st.contents ≡ false)
+GoodState file n st = (bad_state n st ≡ false) × (bad_words file st.contents ≡ false)
 
 abbrev pub GoodInputs : ℕ → List ℕ → Type 0
-GoodInputs m inputs = (length inputs ≡ m) × (badBytes inputs ≡ false)
+GoodInputs m inputs = (length inputs ≡ m) × (bad_bytes inputs ≡ false)
 
 abbrev pub GoodValues : ℕ → List ℕ → Type 0
-GoodValues n values = (length values ≡ signalCount n) × (badBytes values ≡ false)
+GoodValues n values = (length values ≡ signal_count n) × (bad_bytes values ≡ false)

@@ -1,18 +1,18 @@
 // The buffers and arguments lent to a call: refusals 10 and 11. What the file says of them, its tables' kinds, stands among the numbers of its plan.
 ghost use Rattle.std.specs.Prelude.{◌≡◌, ◌*◌, ◌<◌, ◌≤◌, length};
 ghost use Rattle.lent.specs.Lent.{was};
-ghost use Rattle.slicefile.specs.Format.{sliceLimit};
-ghost use Rattle.clocknumbers.specs.Numbers.{edgeLength};
-ghost use Rattle.column.specs.Clock.{stateWas};
-ghost use Rattle.buffers.specs.Buffers.{badState, badLengths, badBytes, badWordBy, badWordsBy, settleRefusalBy, editRefusalBy, badTableBy};
+ghost use Rattle.slicefile.specs.Format.{slice_limit};
+ghost use Rattle.clocknumbers.specs.Numbers.{edge_length};
+ghost use Rattle.column.specs.Clock.{state_was};
+ghost use Rattle.buffers.specs.Buffers.{bad_state, bad_lengths, bad_bytes, bad_word_by, bad_words_by, settle_refusal_by, edit_refusal_by, bad_table_by};
 
 use clocknumbers::{EDGE_LENGTH, KINDS};
 use netlist::SLICE_SIGNALS;
 
 // Whether the contents or the flip-flops have another length than n slices take.
 pub fn bad_state(n: usize, contents: &[u64], flops: &[u8]) -> bool
-    requires { n ≤ sliceLimit }
-    ensures { result ≡ badState n (stateWas contents flops) }
+    requires { n ≤ slice_limit }
+    ensures { result ≡ bad_state n (state_was contents flops) }
 {
     (contents.len() != 4 * n) | (flops.len() != n)
 }
@@ -26,15 +26,15 @@ fn bad_lengths(
     inputs: &[u8],
     values: &[u8],
 ) -> bool
-    requires { n ≤ sliceLimit }
-    ensures { result ≡ badLengths n m (stateWas contents flops) (was inputs) (was values) }
+    requires { n ≤ slice_limit }
+    ensures { result ≡ bad_lengths n m (state_was contents flops) (was inputs) (was values) }
 {
     bad_state(n, contents, flops) | (inputs.len() != m) | (values.len() != SLICE_SIGNALS * n)
 }
 
 // Whether a byte is neither 0 nor 1.
 fn bad_bytes(bytes: &[u8]) -> bool
-    ensures { result ≡ badBytes (was bytes) }
+    ensures { result ≡ bad_bytes (was bytes) }
 {
     let mut found = false;
     let mut i = 0;
@@ -47,8 +47,8 @@ fn bad_bytes(bytes: &[u8]) -> bool
 
 // Whether a word has bits 32 to 63 set while table t is in shift mode, by the kinds among the edges' numbers of n slices.
 fn bad_word(edges: &[u16], n: usize, t: usize, word: u64) -> bool
-    requires { (n ≤ sliceLimit) × (length edges.now ≡ edgeLength * n) × (t < 4 * n) }
-    ensures { result ≡ badWordBy (was edges) t word }
+    requires { (n ≤ slice_limit) × (length edges.now ≡ edge_length * n) × (t < 4 * n) }
+    ensures { result ≡ bad_word_by (was edges) t word }
 {
     let kind = edges[EDGE_LENGTH * (t / 4) + KINDS + t % 4];
     (2 <= kind) & (4294967296 <= word)
@@ -56,8 +56,8 @@ fn bad_word(edges: &[u16], n: usize, t: usize, word: u64) -> bool
 
 // Whether any word does.
 fn bad_words(edges: &[u16], n: usize, contents: &[u64]) -> bool
-    requires { (n ≤ sliceLimit) × (length edges.now ≡ edgeLength * n) × (length contents.now ≡ 4 * n) }
-    ensures { result ≡ badWordsBy (was edges) (was contents) }
+    requires { (n ≤ slice_limit) × (length edges.now ≡ edge_length * n) × (length contents.now ≡ 4 * n) }
+    ensures { result ≡ bad_words_by (was edges) (was contents) }
 {
     let mut found = false;
     let mut t = 0;
@@ -70,8 +70,8 @@ fn bad_words(edges: &[u16], n: usize, contents: &[u64]) -> bool
 
 // Whether a table is not there, or its mode does not allow the word.
 pub fn bad_table(edges: &[u16], n: usize, table: usize, word: u64) -> bool
-    requires { (n ≤ sliceLimit) × (length edges.now ≡ edgeLength * n) }
-    ensures { result ≡ badTableBy (was edges) n table word }
+    requires { (n ≤ slice_limit) × (length edges.now ≡ edge_length * n) }
+    ensures { result ≡ bad_table_by (was edges) n table word }
 {
     if 4 * n <= table {
         return true;
@@ -89,8 +89,8 @@ pub fn settle_refusal(
     inputs: &[u8],
     values: &[u8],
 ) -> usize
-    requires { (n ≤ sliceLimit) × (length edges.now ≡ edgeLength * n) }
-    ensures { result ≡ settleRefusalBy (badWordsBy (was edges) (was contents)) (stateWas contents flops) (was inputs) (was values) n m }
+    requires { (n ≤ slice_limit) × (length edges.now ≡ edge_length * n) }
+    ensures { result ≡ settle_refusal_by (bad_words_by (was edges) (was contents)) (state_was contents flops) (was inputs) (was values) n m }
 {
     if bad_lengths(n, m, contents, flops, inputs, values) {
         return 10;
@@ -114,8 +114,8 @@ pub fn edit_refusal(
     inputs: &[u8],
     values: &[u8],
 ) -> usize
-    requires { (n ≤ sliceLimit) × (length edges.now ≡ edgeLength * n) }
-    ensures { result ≡ editRefusalBy bad (badWordsBy (was edges) (was contents)) (stateWas contents flops) (was inputs) (was values) n m }
+    requires { (n ≤ slice_limit) × (length edges.now ≡ edge_length * n) }
+    ensures { result ≡ edit_refusal_by bad (bad_words_by (was edges) (was contents)) (state_was contents flops) (was inputs) (was values) n m }
 {
     let number = settle_refusal(edges, n, m, contents, flops, inputs, values);
     if number != 0 {

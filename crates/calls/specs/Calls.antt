@@ -5,11 +5,11 @@ use Rattle.lent.specs.Lent.{Lent, was}
 use Rattle.slicefile.specs.declared.Answer.{Answer}
 use Rattle.slicefile.specs.declared.Answer.TheVariants.{Refused as AnswerRefused, Done}
 use Rattle.rules.specs.Rules.{given}
-use Rattle.column.specs.Clock.{State, stateWas, stateLeft, powerUp}
+use Rattle.column.specs.Clock.{State, state_was, state_left, power_up}
 use Rattle.column.specs.Judge.{Judged}
 use Rattle.column.specs.declared.Verdict.{Verdict}
 use Rattle.column.specs.declared.Verdict.TheVariants.{Refused, Accepted}
-use Rattle.buffers.specs.Buffers.{badState}
+use Rattle.buffers.specs.Buffers.{bad_state}
 
 -- a call on a file, with its own refusal for n and m, what is so where nothing was written, and what is so where it was done
 pub data Called (file : List ℕ) (own : ℕ → ℕ → ℕ) (Kept : Type 0) (Did : ℕ → ℕ → Type 0) : Answer → Type 0 where
@@ -19,18 +19,18 @@ pub data Called (file : List ℕ) (own : ℕ → ℕ → ℕ) (Kept : Type 0) (D
 
 -- a call on the plan of a judged file: its own refusal, or what was done
 pub data Planned (own : ℕ) (Kept Did : Type 0) : Answer → Type 0 where
-  plan-refused : {k : ℕ} → own ≡ suc k → Kept → Planned own Kept Did (AnswerRefused (suc k) 0)
-  plan-done : own ≡ 0 → Did → Planned own Kept Did Done
+  plan_refused : {k : ℕ} → own ≡ suc k → Kept → Planned own Kept Did (AnswerRefused (suc k) 0)
+  plan_done : own ≡ 0 → Did → Planned own Kept Did Done
 
 -- the judge's refusal as the answer of a call
-abbrev pub refusalOf : Verdict → Answer
-refusalOf (Refused k p) = AnswerRefused k p
-refusalOf (Accepted n m) = Done
+abbrev pub refusal_of : Verdict → Answer
+refusal_of (Refused k p) = AnswerRefused k p
+refusal_of (Accepted n m) = Done
 
 -- "power up (fills contents and flip-flops)"
 abbrev pub PoweredUp : List ℕ → State → State → Answer → Type 0
-PoweredUp file old new = Called file (λ n m. given 10 (badState n old)) (new ≡ old) (λ n m. new ≡ powerUp file)
+PoweredUp file old new = Called file (λ n m. given 10 (bad_state n old)) (new ≡ old) (λ n m. new ≡ power_up file)
 
 -- the same on lent buffers, as they were and as they are left
 abbrev pub PowersUp : Lent → Lent → Lent → Answer → Type 0
-PowersUp file contents flops = PoweredUp (was file) (stateWas contents flops) (stateLeft contents flops)
+PowersUp file contents flops = PoweredUp (was file) (state_was contents flops) (state_left contents flops)

@@ -2,16 +2,16 @@
 ghost use Rattle.std.specs.Prelude.{◌≡◌, ◌*◌, length};
 ghost use Rattle.lent.specs.Lent.{was, left};
 ghost use Rattle.column.specs.Check.{IsSound};
-ghost use Rattle.column.specs.Clock.{powerUp};
+ghost use Rattle.column.specs.Clock.{power_up};
 ghost use Rattle.column.specs.Judge.{Judged};
-ghost use Rattle.calls.specs.Calls.{refusalOf, PowersUp};
+ghost use Rattle.calls.specs.Calls.{refusal_of, PowersUp};
 
 use column::Verdict;
 use slicefile::{Answer, POWER_UP};
 
 // The judge's refusal as the answer of a call.
 pub fn refusal(v: Verdict) -> Answer
-    ensures { result ≡ refusalOf v }
+    ensures { result ≡ refusal_of v }
 {
     match v {
         Verdict::Refused { number, place } => Answer::Refused { number, place },
@@ -22,7 +22,7 @@ pub fn refusal(v: Verdict) -> Answer
 // Fills the contents with those of a sound file.
 fn fill_contents(file: &[u8], n: usize, m: usize, contents: &mut [u64])
     requires { IsSound file.now n m × (length contents.old ≡ 4 * n) }
-    ensures { left contents ≡ (powerUp (was file)).contents }
+    ensures { left contents ≡ (power_up (was file)).contents }
 {
     let mut t = 0;
     while t < 4 * n {
@@ -35,7 +35,7 @@ fn fill_contents(file: &[u8], n: usize, m: usize, contents: &mut [u64])
 // Fills the flip-flops with the power-up bits of a sound file.
 fn fill_flops(file: &[u8], n: usize, m: usize, flops: &mut [u8])
     requires { IsSound file.now n m × (length flops.old ≡ n) }
-    ensures { left flops ≡ (powerUp (was file)).flops }
+    ensures { left flops ≡ (power_up (was file)).flops }
 {
     let mut s = 0;
     while s < n {

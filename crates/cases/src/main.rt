@@ -1,6 +1,6 @@
 // Runs the paper's worked cases on files of one slice, and writes what settles, what the clock leaves and what is refused, a line a case.
 ghost use Rattle.std.specs.Prelude.{◌<◌, ◌≤◌};
-ghost use Rattle.slicefile.specs.Format.{sliceTag, bodyLength, pinCount};
+ghost use Rattle.slicefile.specs.Format.{slice_tag, body_length, pin_count};
 
 use libc::STDOUT_FILENO;
 use netlist::SLICE_SIGNALS;
@@ -51,7 +51,7 @@ fn base() -> File {
 
 // The file with a byte of the body set.
 fn set(mut file: File, place: usize, byte: u8) -> File
-    requires { place < bodyLength sliceTag }
+    requires { place < body_length slice_tag }
 {
     file[BODY + place] = byte;
     file
@@ -59,14 +59,14 @@ fn set(mut file: File, place: usize, byte: u8) -> File
 
 // The file with a pin driven by the constant 1: its low byte.
 fn drive(file: File, pin: usize) -> File
-    requires { pin < pinCount }
+    requires { pin < pin_count }
 {
     set(file, PINS + CODE * pin, 1)
 }
 
 // The file with each byte of the body from first on, step by step and before end, set.
 fn set_each(mut file: File, first: usize, end: usize, step: usize, byte: u8) -> File
-    requires { (end ≤ bodyLength sliceTag) × (0 < step) × (step ≤ 2) }
+    requires { (end ≤ body_length slice_tag) × (0 < step) × (step ≤ 2) }
 {
     let mut i = first;
     while i < end {

@@ -6,7 +6,7 @@ use native.Mathlib.Omega.{arith}
 use lib.Arith.{digits_lt}
 use lib.Pow.{pow_pos, pow-add, shr_lt, split, mod-pow-add}
 use Rattle.netlist.specs.Rule.{bit_at}
-use Rattle.series7.specs.Edge.{withBit}
+use Rattle.series7.specs.Edge.{with_bit}
 
 module _ (c i : ℕ) where
   -- a word by what stands above bit i, that bit, and what stands below
@@ -17,8 +17,8 @@ module _ (c i : ℕ) where
   bit_below = omega (arith, parts)
 
   -- a word with one bit set anew still fits
-  pub with-bit-fits : (b : ℕ) → i < 64 → c < 2 ^ 64 → b < 2 → withBit c i b < 2 ^ 64
-  with-bit-fits b h fits small =
+  pub with_bit_fits : (b : ℕ) → i < 64 → c < 2 ^ 64 → b < 2 → with_bit c i b < 2 ^ 64
+  with_bit_fits b h fits small =
       let p = 2 ^ (1 + i) in
       let whole : 63 - i + (1 + i) ≡ 64 = omega arith in
       let double : p ≡ 2 * 2 ^ i = pow-add 2 1 i in

@@ -8,8 +8,8 @@ use borrow.Author.Tests.{ne_eqb, lt-ltb, le-ltb}
 use lib.Dec.{eqb}
 use lib.ListN.{get_or}
 use Rattle.netlist.specs.Table.{code_of}
-use Rattle.series7.specs.Edge.{flopSource}
-use Rattle.clocknumbers.specs.Numbers.{enablePlace, resetPlace, writePlace, addressPlace, flopPlace, valuesPlace, kindPlace, dataPlace, widthPlace, addressCode, tableKind, dataCode, edgeNumber, edgeNumbers}
+use Rattle.series7.specs.Edge.{flop_source}
+use Rattle.clocknumbers.specs.Numbers.{enable_place, reset_place, write_place, address_place, flop_place, values_place, kind_place, data_place, width_place, address_code, table_kind, data_code, edge_number, edge_numbers}
 use Rattle.clocknumbers.proofs.Table.{number_at}
 
 past : (k b : ℕ) → b < k → eqb k b ≡ false
@@ -17,36 +17,36 @@ past k b h = ne_eqb k b (λ e. omega arith)
 
 module _ (n m s : ℕ) (body : List ℕ) where
   -- pin i of the write address
-  pub address-at : (i : ℕ) → i < 6 → get_or (edgeNumbers n m s body) (addressPlace + i) 0 ≡ addressCode n m body i
-  unfolding edgeNumber
-  address-at i h =
-      let k = addressPlace + i in
-      let index : k - addressPlace ≡ i = omega arith in
-      number_at n m s body k (omega arith) ∙ rw (past k enablePlace (omega arith), past k resetPlace (omega arith), past k writePlace (omega arith), lt-ltb k flopPlace (omega arith), index)
+  pub address_at : (i : ℕ) → i < 6 → get_or (edge_numbers n m s body) (address_place + i) 0 ≡ address_code n m body i
+  unfolding edge_number
+  address_at i h =
+      let k = address_place + i in
+      let index : k - address_place ≡ i = omega arith in
+      number_at n m s body k (omega arith) ∙ rw (past k enable_place (omega arith), past k reset_place (omega arith), past k write_place (omega arith), lt-ltb k flop_place (omega arith), index)
 
   -- the data of bit b of the flip-flop byte
-  pub flop-at : (b : ℕ) → b < 8 → get_or (edgeNumbers n m s body) (flopPlace + b) 0 ≡ code_of n (flopSource n m s body b)
-  unfolding edgeNumber
-  flop-at b h =
-      let k = flopPlace + b in
-      let index : k - flopPlace ≡ b = omega arith in
+  pub flop_at : (b : ℕ) → b < 8 → get_or (edge_numbers n m s body) (flop_place + b) 0 ≡ code_of n (flop_source n m s body b)
+  unfolding edge_number
+  flop_at b h =
+      let k = flop_place + b in
+      let index : k - flop_place ≡ b = omega arith in
       number_at n m s body k (omega arith)
-      ∙ rw (past k enablePlace (omega arith), past k resetPlace (omega arith), past k writePlace (omega arith), le-ltb k flopPlace (omega arith), lt-ltb k valuesPlace (omega arith), index)
+      ∙ rw (past k enable_place (omega arith), past k reset_place (omega arith), past k write_place (omega arith), le-ltb k flop_place (omega arith), lt-ltb k values_place (omega arith), index)
 
   -- letter l's table kind
-  pub kind_at : (l : ℕ) → l < 4 → get_or (edgeNumbers n m s body) (kindPlace + l) 0 ≡ tableKind body l
-  unfolding edgeNumber
+  pub kind_at : (l : ℕ) → l < 4 → get_or (edge_numbers n m s body) (kind_place + l) 0 ≡ table_kind body l
+  unfolding edge_number
   kind_at l h =
-      let k = kindPlace + l in
-      let index : k - kindPlace ≡ l = omega arith in
+      let k = kind_place + l in
+      let index : k - kind_place ≡ l = omega arith in
       number_at n m s body k (omega arith)
-      ∙ rw (past k enablePlace (omega arith), past k resetPlace (omega arith), past k writePlace (omega arith), le-ltb k flopPlace (omega arith), le-ltb k valuesPlace (omega arith), past k valuesPlace (omega arith), lt-ltb k dataPlace (omega arith), index)
+      ∙ rw (past k enable_place (omega arith), past k reset_place (omega arith), past k write_place (omega arith), le-ltb k flop_place (omega arith), le-ltb k values_place (omega arith), past k values_place (omega arith), lt-ltb k data_place (omega arith), index)
 
   -- letter l's write data
-  pub data-at : (l : ℕ) → l < 4 → get_or (edgeNumbers n m s body) (dataPlace + l) 0 ≡ dataCode n m body l
-  unfolding edgeNumber
-  data-at l h =
-      let k = dataPlace + l in
-      let index : k - dataPlace ≡ l = omega arith in
+  pub data_at : (l : ℕ) → l < 4 → get_or (edge_numbers n m s body) (data_place + l) 0 ≡ data_code n m body l
+  unfolding edge_number
+  data_at l h =
+      let k = data_place + l in
+      let index : k - data_place ≡ l = omega arith in
       number_at n m s body k (omega arith)
-      ∙ rw (past k enablePlace (omega arith), past k resetPlace (omega arith), past k writePlace (omega arith), le-ltb k flopPlace (omega arith), le-ltb k valuesPlace (omega arith), past k valuesPlace (omega arith), le-ltb k dataPlace (omega arith), lt-ltb k widthPlace (omega arith), index)
+      ∙ rw (past k enable_place (omega arith), past k reset_place (omega arith), past k write_place (omega arith), le-ltb k flop_place (omega arith), le-ltb k values_place (omega arith), past k values_place (omega arith), le-ltb k data_place (omega arith), lt-ltb k width_place (omega arith), index)

@@ -8,66 +8,66 @@ use native.Mathlib.Decide.{dec_lt}
 use native.Mathlib.Omega.{arith}
 use lib.ListN.{length, get_or, set, length-set}
 use lib.Seq.{get_or-set_other}
-use Rattle.slicefile.proofs.Filling.{Filled, filled_next, filled-all}
-use Rattle.clockedge.specs.Moves.{edge_at, flopsBy, wordBy, wordsBy, bytesBy}
+use Rattle.slicefile.proofs.Filling.{Filled, filled_next, filled_all}
+use Rattle.clockedge.specs.Moves.{edge_at, flops_by, word_by, words_by, bytes_by}
 use Rattle.clockedge.specs.Moved.{Moved}
 
 module _ (wires edges words bytes : List ℕ) where
   -- word t and flip-flop byte s after the edge
   abbrev word : ℕ → ℕ
-  word t = wordBy wires (edge_at edges (t / 4)) (t % 4) (get_or words t 0) (get_or words (t + 1) 0)
+  word t = word_by wires (edge_at edges (t / 4)) (t % 4) (get_or words t 0) (get_or words (t + 1) 0)
 
   abbrev byte : ℕ → ℕ
-  byte s = flopsBy wires (edge_at edges s) (get_or bytes s 0)
+  byte s = flops_by wires (edge_at edges s) (get_or bytes s 0)
 
   -- slices below s have moved
   pub record MovedTo (s : ℕ) (contents flops : List ℕ) : Type 0 where
-    pub contents-size : length contents ≡ length words
-    pub flops-size : length flops ≡ length bytes
-    pub contents-moved : Filled word (4 * s) contents
-    pub contents-kept : (i : ℕ) → 4 * s ≤ i → get_or contents i 0 ≡ get_or words i 0
-    pub flops-moved : Filled byte s flops
-    pub flops-kept : (i : ℕ) → s ≤ i → get_or flops i 0 ≡ get_or bytes i 0
+    pub contents_size : length contents ≡ length words
+    pub flops_size : length flops ≡ length bytes
+    pub contents_moved : Filled word (4 * s) contents
+    pub contents_kept : (i : ℕ) → 4 * s ≤ i → get_or contents i 0 ≡ get_or words i 0
+    pub flops_moved : Filled byte s flops
+    pub flops_kept : (i : ℕ) → s ≤ i → get_or flops i 0 ≡ get_or bytes i 0
 
-  pub moved-start : MovedTo 0 words bytes
-  moved-start =
+  pub moved_start : MovedTo 0 words bytes
+  moved_start =
       record {
-        contents-size = refl;
-        flops-size = refl;
-        contents-moved = λ i l. absurd (omega arith);
-        contents-kept = λ i l. refl;
-        flops-moved = λ i l. absurd (omega arith);
-        flops-kept = λ i l. refl;
+        contents_size = refl;
+        flops_size = refl;
+        contents_moved = λ i l. absurd (omega arith);
+        contents_kept = λ i l. refl;
+        flops_moved = λ i l. absurd (omega arith);
+        flops_kept = λ i l. refl;
       }
 
-  pub moved-next :
+  pub moved_next :
       (s : ℕ) (contents flops contents' flops' : List ℕ) → s < length flops → MovedTo s contents flops → Moved wires (edge_at edges s) s 4 contents contents'
-      → flops' ≡ set flops s (flopsBy wires (edge_at edges s) (get_or flops s 0)) → MovedTo (s + 1) contents' flops'
-  moved-next s contents flops contents' flops' fits before moves e =
+      → flops' ≡ set flops s (flops_by wires (edge_at edges s) (get_or flops s 0)) → MovedTo (s + 1) contents' flops'
+  moved_next s contents flops contents' flops' fits before moves e =
       record {
-        contents-size = moves.long ∙ before.contents-size;
-        flops-size = ap length e ∙ simp length-set before.flops-size;
-        contents-moved = λ i h. by_place i h (dec_lt i (4 * s));
-        contents-kept = λ i h. moves.kept i (inr (omega arith)) ∙ before.contents-kept i (omega arith);
-        flops-moved = rw e (filled_next byte s flops _ fits (ap (flopsBy wires (edge_at edges s)) (before.flops-kept s (omega arith))) before.flops-moved);
-        flops-kept = λ i h. rw e (get_or-set_other flops s i _ 0 (λ z. omega arith)) ∙ before.flops-kept i (omega arith);
+        contents_size = moves.long ∙ before.contents_size;
+        flops_size = ap length e ∙ simp length-set before.flops_size;
+        contents_moved = λ i h. by_place i h (dec_lt i (4 * s));
+        contents_kept = λ i h. moves.kept i (inr (omega arith)) ∙ before.contents_kept i (omega arith);
+        flops_moved = rw e (filled_next byte s flops _ fits (ap (flops_by wires (edge_at edges s)) (before.flops_kept s (omega arith))) before.flops_moved);
+        flops_kept = λ i h. rw e (get_or-set_other flops s i _ 0 (λ z. omega arith)) ∙ before.flops_kept i (omega arith);
       }
     where
       -- a word of slice s, at its letter
-      at-letter : (i : ℕ) → 4 * s ≤ i → i < 4 * (s + 1) → get_or contents' i 0 ≡ word i
-      at-letter i low high =
+      at_letter : (i : ℕ) → 4 * s ≤ i → i < 4 * (s + 1) → get_or contents' i 0 ≡ word i
+      at_letter i low high =
           let slice : i / 4 ≡ s = omega arith in
           let letter : 4 * s + i % 4 ≡ i = omega arith in
           let moved = rw letter at (moves.moved (i % 4) (omega arith)) in
-          moved ∙ rw (slice, before.contents-kept i low, before.contents-kept (i + 1) (omega arith))
+          moved ∙ rw (slice, before.contents_kept i low, before.contents_kept (i + 1) (omega arith))
 
       by_place : (i : ℕ) → i < 4 * (s + 1) → Dec (i < 4 * s) → get_or contents' i 0 ≡ word i
-      by_place i h (yes before') = moves.kept i (inl before') ∙ before.contents-moved i before'
-      by_place i h (no late) = at-letter i (omega arith) h
+      by_place i h (yes before') = moves.kept i (inl before') ∙ before.contents_moved i before'
+      by_place i h (no late) = at_letter i (omega arith) h
 
   pub moved_all :
       (n : ℕ) → length words ≡ 4 * n → length bytes ≡ n → {contents flops : List ℕ} → MovedTo n contents flops
-      → (contents ≡ wordsBy wires edges n words) × (flops ≡ bytesBy wires edges n bytes)
-  unfolding wordsBy bytesBy
+      → (contents ≡ words_by wires edges n words) × (flops ≡ bytes_by wires edges n bytes)
+  unfolding words_by bytes_by
   moved_all n wl bl {contents} {flops} w =
-      (filled-all word (4 * n) contents (w.contents-size ∙ wl) w.contents-moved, filled-all byte n flops (w.flops-size ∙ bl) w.flops-moved)
+      (filled_all word (4 * n) contents (w.contents_size ∙ wl) w.contents_moved, filled_all byte n flops (w.flops_size ∙ bl) w.flops_moved)

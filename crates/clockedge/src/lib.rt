@@ -3,9 +3,9 @@
 ghost use Rattle.std.specs.Prelude.{◌≡◌, ◌+◌, ◌*◌, ◌<◌, ◌≤◌, length, get_or, set};
 ghost use Rattle.lent.specs.Lent.{was, left};
 ghost use Rattle.netlist.specs.Rule.{bit_at};
-ghost use Rattle.series7.specs.Edge.{withBit, shifted};
-ghost use Rattle.slicefile.specs.Format.{sliceLimit};
-ghost use Rattle.clockedge.specs.Moves.{EdgeFits, EdgesFit, flopsBy, wordBy, wordsBy, bytesBy};
+ghost use Rattle.series7.specs.Edge.{with_bit, shifted};
+ghost use Rattle.slicefile.specs.Format.{slice_limit};
+ghost use Rattle.clockedge.specs.Moves.{EdgeFits, EdgesFit, flops_by, word_by, words_by, bytes_by};
 ghost use Rattle.clockedge.specs.Moved.{Moved};
 
 use clocknumbers::{ADDRESS, DATA, EDGE_LENGTH, ENABLE, FLOPS, KINDS, RESET, VALUES, WRITE};
@@ -13,7 +13,7 @@ use clocknumbers::{ADDRESS, DATA, EDGE_LENGTH, ENABLE, FLOPS, KINDS, RESET, VALU
 // The flip-flop byte of a slice after the edge.
 fn next_flops(edge: &[u16], wires: &[u8], old: u8) -> u8
     requires { EdgeFits wires.now edge.now }
-    ensures { result ≡ flopsBy (was wires) (was edge) old }
+    ensures { result ≡ flops_by (was wires) (was edge) old }
 {
     let reset = evaluation::wire(wires, edge[RESET]);
     if reset == 1 {
@@ -29,7 +29,7 @@ fn next_flops(edge: &[u16], wires: &[u8], old: u8) -> u8
 // A word with bit i set to b.
 fn with_bit(word: u64, i: u8, b: u8) -> u64
     requires { (i < 64) × (b < 2) }
-    ensures { result ≡ withBit word i b }
+    ensures { result ≡ with_bit word i b }
 {
     let power = 1u64 << i;
     let was = (word >> i) % 2;
@@ -53,7 +53,7 @@ fn bit_31(word: u64) -> u8
 // Letter l's word after the edge; `next` is the next letter's word before it.
 fn next_word(edge: &[u16], l: usize, wires: &[u8], old: u64, next: u64) -> u64
     requires { EdgeFits wires.now edge.now × (l < 4) }
-    ensures { result ≡ wordBy (was wires) (was edge) l old next }
+    ensures { result ≡ word_by (was wires) (was edge) l old next }
 {
     let enable = evaluation::wire(wires, edge[WRITE]);
     if enable != 1 {
@@ -99,7 +99,7 @@ fn move_words(edge: &[u16], s: usize, wires: &[u8], contents: &mut [u64])
 fn move_slice(edge: &[u16], s: usize, wires: &[u8], contents: &mut [u64], flops: &mut [u8])
     requires { EdgeFits wires.now edge.now × (4 * s + 4 ≤ length contents.old) × (s < length flops.old) }
     ensures moved { Moved (was wires) (was edge) s 4 (was contents) (left contents) }
-    ensures flops_value { left flops ≡ set (was flops) s (flopsBy (was wires) (was edge) (get_or (was flops) s 0)) }
+    ensures flops_value { left flops ≡ set (was flops) s (flops_by (was wires) (was edge) (get_or (was flops) s 0)) }
 {
     move_words(edge, s, wires, contents);
     let byte = next_flops(edge, wires, flops[s]);
@@ -108,10 +108,10 @@ fn move_slice(edge: &[u16], s: usize, wires: &[u8], contents: &mut [u64], flops:
 
 // Moves the state of n slices over the clock edge. All move together, from the table on the wires.
 pub fn move_all(edges: &[u16], n: usize, wires: &[u8], contents: &mut [u64], flops: &mut [u8])
-    requires n_le_slice_limit { (n ≤ sliceLimit) × EdgesFit n wires.now edges.now }
+    requires n_le_slice_limit { (n ≤ slice_limit) × EdgesFit n wires.now edges.now }
     requires contents_len { (length contents.old ≡ 4 * n) × (length flops.old ≡ n) }
-    ensures contents_value { left contents ≡ wordsBy (was wires) (was edges) n (was contents) }
-    ensures flops_value { left flops ≡ bytesBy (was wires) (was edges) n (was flops) }
+    ensures contents_value { left contents ≡ words_by (was wires) (was edges) n (was contents) }
+    ensures flops_value { left flops ≡ bytes_by (was wires) (was edges) n (was flops) }
 {
     let mut s = 0;
     while s < n {

@@ -1,10 +1,10 @@
 // The plain numbers of a slice's clock edge, of the 7 series.
 ghost use Rattle.std.specs.Prelude.{◌≡◌, ◌<◌, ◌≤◌};
 ghost use Rattle.lent.specs.Lent.{was};
-ghost use Rattle.netlist.specs.Table.{code_of, inputRoom};
-ghost use Rattle.slicefile.specs.Format.{sliceLimit, HoldsSlice};
-ghost use Rattle.series7.specs.Edge.{mainSource, secondSource, flopSource};
-ghost use Rattle.clocknumbers.specs.Numbers.{resetCode, addressCode, tableKind, dataCode, edgeNumber, edgeNumbers};
+ghost use Rattle.netlist.specs.Table.{code_of, input_room};
+ghost use Rattle.slicefile.specs.Format.{slice_limit, HoldsSlice};
+ghost use Rattle.series7.specs.Edge.{main_source, second_source, flop_source};
+ghost use Rattle.clocknumbers.specs.Numbers.{reset_code, address_code, table_kind, data_code, edge_number, edge_numbers};
 
 use slicefile::{
     BYPASS_PIN, CE_PIN, MAIN, MODE, MODE_D, PINS_D, SECOND, SET_RESET_USED, SET_RESET_VALUES,
@@ -37,8 +37,8 @@ pub const EDGE_LENGTH: usize = 27;
 
 // The set/reset pin, where it is used.
 fn reset_code(n: usize, m: usize, body: &[u8]) -> u16
-    requires { HoldsSlice body.now × (n ≤ sliceLimit) × (m ≤ inputRoom) }
-    ensures { result ≡ resetCode n m (was body) }
+    requires { HoldsSlice body.now × (n ≤ slice_limit) × (m ≤ input_room) }
+    ensures { result ≡ reset_code n m (was body) }
 {
     if body[SET_RESET_USED] == 1 {
         return sources::pin_number(n, m, body, SR_PIN);
@@ -48,8 +48,8 @@ fn reset_code(n: usize, m: usize, body: &[u8]) -> u16
 
 // Pin i of D's table, where D is in memory mode.
 fn address_code(n: usize, m: usize, body: &[u8], i: usize) -> u16
-    requires { HoldsSlice body.now × (n ≤ sliceLimit) × (m ≤ inputRoom) × (i < 6) }
-    ensures { result ≡ addressCode n m (was body) i }
+    requires { HoldsSlice body.now × (n ≤ slice_limit) × (m ≤ input_room) × (i < 6) }
+    ensures { result ≡ address_code n m (was body) i }
 {
     if body[MODE_D] == 1 {
         return sources::pin_number(n, m, body, PINS_D + i);
@@ -59,8 +59,8 @@ fn address_code(n: usize, m: usize, body: &[u8], i: usize) -> u16
 
 // What the main flip-flop of a letter takes.
 fn main_code(n: usize, m: usize, s: usize, body: &[u8], l: usize) -> u16
-    requires { HoldsSlice body.now × (n ≤ sliceLimit) × (m ≤ inputRoom) × (s < n) × (l < 4) }
-    ensures { result ≡ code_of n (mainSource n m s (was body) l) }
+    requires { HoldsSlice body.now × (n ≤ slice_limit) × (m ≤ input_room) × (s < n) × (l < 4) }
+    ensures { result ≡ code_of n (main_source n m s (was body) l) }
 {
     let choice = body[MAIN + l];
     if choice == 0 {
@@ -86,8 +86,8 @@ fn main_code(n: usize, m: usize, s: usize, body: &[u8], l: usize) -> u16
 
 // What the second flip-flop of a letter takes.
 fn second_code(n: usize, m: usize, s: usize, body: &[u8], l: usize) -> u16
-    requires { HoldsSlice body.now × (n ≤ sliceLimit) × (m ≤ inputRoom) × (s < n) × (l < 4) }
-    ensures { result ≡ code_of n (secondSource n m s (was body) l) }
+    requires { HoldsSlice body.now × (n ≤ slice_limit) × (m ≤ input_room) × (s < n) × (l < 4) }
+    ensures { result ≡ code_of n (second_source n m s (was body) l) }
 {
     if body[SECOND + l] == 0 {
         return sources::own_number(s, O5_SIGNAL + l);
@@ -97,8 +97,8 @@ fn second_code(n: usize, m: usize, s: usize, body: &[u8], l: usize) -> u16
 
 // What bit b of the flip-flop byte takes.
 fn flop_code(n: usize, m: usize, s: usize, body: &[u8], b: usize) -> u16
-    requires { HoldsSlice body.now × (n ≤ sliceLimit) × (m ≤ inputRoom) × (s < n) × (b < 8) }
-    ensures { result ≡ code_of n (flopSource n m s (was body) b) }
+    requires { HoldsSlice body.now × (n ≤ slice_limit) × (m ≤ input_room) × (s < n) × (b < 8) }
+    ensures { result ≡ code_of n (flop_source n m s (was body) b) }
 {
     if b < 4 {
         return main_code(n, m, s, body, b);
@@ -109,7 +109,7 @@ fn flop_code(n: usize, m: usize, s: usize, body: &[u8], b: usize) -> u16
 // A table's kind: 0 logic, 1 memory, 2 shift, 3 shift from the next letter.
 fn table_kind(body: &[u8], l: usize) -> u16
     requires { HoldsSlice body.now × (l < 4) }
-    ensures { result ≡ tableKind (was body) l }
+    ensures { result ≡ table_kind (was body) l }
 {
     let mode = body[MODE + l];
     if mode == 0 {
@@ -126,8 +126,8 @@ fn table_kind(body: &[u8], l: usize) -> u16
 
 // A letter's bypass pin, where its table writes it.
 fn data_code(n: usize, m: usize, body: &[u8], l: usize) -> u16
-    requires { HoldsSlice body.now × (n ≤ sliceLimit) × (m ≤ inputRoom) × (l < 4) }
-    ensures { result ≡ dataCode n m (was body) l }
+    requires { HoldsSlice body.now × (n ≤ slice_limit) × (m ≤ input_room) × (l < 4) }
+    ensures { result ≡ data_code n m (was body) l }
 {
     let kind = table_kind(body, l);
     if kind == 0 {
@@ -141,8 +141,8 @@ fn data_code(n: usize, m: usize, body: &[u8], l: usize) -> u16
 
 // Number k of a slice's edge.
 fn edge_number(n: usize, m: usize, s: usize, body: &[u8], k: usize) -> u16
-    requires { HoldsSlice body.now × (n ≤ sliceLimit) × (m ≤ inputRoom) × (s < n) }
-    ensures { result ≡ edgeNumber n m s (was body) k }
+    requires { HoldsSlice body.now × (n ≤ slice_limit) × (m ≤ input_room) × (s < n) }
+    ensures { result ≡ edge_number n m s (was body) k }
 {
     if k == ENABLE {
         return sources::pin_number(n, m, body, CE_PIN);
@@ -173,8 +173,8 @@ fn edge_number(n: usize, m: usize, s: usize, body: &[u8], k: usize) -> u16
 
 // The numbers of the edge of slice s, whose record has that body, in a file of n slices and m outside inputs.
 pub fn edge_of(n: usize, m: usize, s: usize, body: &[u8]) -> [u16; EDGE_LENGTH]
-    requires { HoldsSlice body.now × (n ≤ sliceLimit) × (m ≤ inputRoom) × (s < n) }
-    ensures { result ≡ edgeNumbers n m s (was body) }
+    requires { HoldsSlice body.now × (n ≤ slice_limit) × (m ≤ input_room) × (s < n) }
+    ensures { result ≡ edge_numbers n m s (was body) }
 {
     let mut edge = [0u16; EDGE_LENGTH];
     let mut k = 0;

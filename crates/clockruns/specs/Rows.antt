@@ -2,30 +2,30 @@
 use Rattle.std.specs.Prelude.{ℕ, zero, suc, ◌*◌, ◌/◌, ◌≡◌, List, length, take, drop}
 use Rattle.lent.specs.Lent.{Lent, was, left}
 use Rattle.slicefile.specs.declared.Answer.{Answer}
-use Rattle.column.specs.Clock.{State, stateWas, stateLeft, Run}
+use Rattle.column.specs.Clock.{State, state_was, state_left, Run}
 use Rattle.plan.specs.Plan.{Ready}
-use Rattle.buffers.specs.Buffers.{settleRefusal}
+use Rattle.buffers.specs.Buffers.{settle_refusal}
 use Rattle.calls.specs.Calls.{Called, Planned}
-use Rattle.simulator.specs.Running.{planRefusal}
+use Rattle.simulator.specs.Running.{plan_refusal}
 
 -- how many clocks the inputs are for: none where m is 0
-abbrev pub clockCount : List ℕ → ℕ → ℕ
-clockCount inputs m = length inputs / m
+abbrev pub clock_count : List ℕ → ℕ → ℕ
+clock_count inputs m = length inputs / m
 
 -- the inputs of clock i
-abbrev pub inputsAt : List ℕ → ℕ → ℕ → List ℕ
-inputsAt inputs m i = take m (drop (m * i) inputs)
+abbrev pub inputs_at : List ℕ → ℕ → ℕ → List ℕ
+inputs_at inputs m i = take m (drop (m * i) inputs)
 
 -- the last of k tables, the one that was lent where there is none
-abbrev pub lastTable : List ℕ → (ℕ → List ℕ) → ℕ → List ℕ
-lastTable old tables zero = old
-lastTable old tables (suc k) = tables k
+abbrev pub last_table : List ℕ → (ℕ → List ℕ) → ℕ → List ℕ
+last_table old tables zero = old
+last_table old tables (suc k) = tables k
 
 -- k clocks: a run from the state as it was to the state as it is left, and the table settled before its last edge
 pub record Ran (file : List ℕ) (m k : ℕ) (st moved : State) (inputs old new : List ℕ) : Type 0 where
-  pub run : Run file st (inputsAt inputs m) k
+  pub run : Run file st (inputs_at inputs m) k
   pub state : moved ≡ run.states k
-  pub table : new ≡ lastTable old run.tables k
+  pub table : new ≡ last_table old run.tables k
 
 -- the same by a plan, for whatever file it stands
 abbrev pub RanPlan : List ℕ → ℕ → ℕ → ℕ → State → State → List ℕ → List ℕ → List ℕ → Type 0
@@ -34,15 +34,15 @@ RanPlan plan n m k st moved inputs old new = (file : List ℕ) → Ready file n 
 -- a row is refused as one clock is, but that its inputs are those of all its clocks; else all of them are done
 abbrev pub RowCalled : List ℕ → State → State → List ℕ → List ℕ → List ℕ → Answer → Type 0
 RowCalled file st moved inputs old new =
-    Called file (λ n m. settleRefusal file st inputs old n (m * clockCount inputs m)) ((moved ≡ st) × (new ≡ old))
-    (λ n m. Ran file m (clockCount inputs m) st moved inputs old new)
+    Called file (λ n m. settle_refusal file st inputs old n (m * clock_count inputs m)) ((moved ≡ st) × (new ≡ old))
+    (λ n m. Ran file m (clock_count inputs m) st moved inputs old new)
 
 abbrev pub RowPlanned : List ℕ → ℕ → ℕ → State → State → List ℕ → List ℕ → List ℕ → Answer → Type 0
 RowPlanned plan n m st moved inputs old new =
-    Planned (planRefusal plan n (m * clockCount inputs m) st inputs old) ((moved ≡ st) × (new ≡ old))
-    (RanPlan plan n m (clockCount inputs m) st moved inputs old new)
+    Planned (plan_refusal plan n (m * clock_count inputs m) st inputs old) ((moved ≡ st) × (new ≡ old))
+    (RanPlan plan n m (clock_count inputs m) st moved inputs old new)
 
 -- the promise on lent buffers, as they were and as they are left
 abbrev pub RunsRow : Lent → Lent → Lent → Lent → Lent → Answer → Type 0
 RunsRow file contents flops inputs values =
-    RowCalled (was file) (stateWas contents flops) (stateLeft contents flops) (was inputs) (was values) (left values)
+    RowCalled (was file) (state_was contents flops) (state_left contents flops) (was inputs) (was values) (left values)

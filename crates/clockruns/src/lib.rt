@@ -1,12 +1,12 @@
 // Clocks in a row over one loaded plan, to be timed. No part of the library, whose packing of answers it uses.
 ghost use Rattle.std.specs.Prelude.{◌≡◌, ◌*◌, length};
 ghost use Rattle.lent.specs.Lent.{was, left};
-ghost use Rattle.netlist.specs.Table.{signalCount, wireCount};
+ghost use Rattle.netlist.specs.Table.{signal_count, wire_count};
 ghost use Rattle.evaluation.specs.Numbers.{Bits};
-ghost use Rattle.column.specs.Clock.{stateWas, stateLeft};
+ghost use Rattle.column.specs.Clock.{state_was, state_left};
 ghost use Rattle.plan.specs.Plan.{Runnable};
 ghost use Rattle.quagmuffin.specs.Packed.{Answered};
-ghost use Rattle.clockruns.specs.Rows.{clockCount, RanPlan, RowPlanned, RunsRow};
+ghost use Rattle.clockruns.specs.Rows.{clock_count, RanPlan, RowPlanned, RunsRow};
 
 use column::Verdict;
 use netlist::{SIGNAL_WIRE, SLICE_SIGNALS, WIRE_LIMIT};
@@ -15,7 +15,7 @@ use slicefile::Answer;
 
 // How many clocks the inputs are for, m bytes each.
 fn clock_count(inputs: &[u8], m: usize) -> usize
-    ensures { result ≡ clockCount (was inputs) m }
+    ensures { result ≡ clock_count (was inputs) m }
 {
     if m == 0 {
         return 0;
@@ -35,10 +35,10 @@ fn run_clocks(
     values: &mut [u8],
     wires: &mut [u8],
 )
-    requires runnable { Runnable n m plan.now × (length wires.old ≡ wireCount n m) × Bits wires.old }
-    requires contents_len { (length contents.old ≡ 4 * n) × (length flops.old ≡ n) × (length values.old ≡ signalCount n) }
+    requires runnable { Runnable n m plan.now × (length wires.old ≡ wire_count n m) × Bits wires.old }
+    requires contents_len { (length contents.old ≡ 4 * n) × (length flops.old ≡ n) × (length values.old ≡ signal_count n) }
     requires inputs_len { (length inputs.now ≡ m * k) × Bits inputs.now }
-    ensures { RanPlan (was plan) n m k (stateWas contents flops) (stateLeft contents flops) (was inputs) (was values) (left values) }
+    ensures { RanPlan (was plan) n m k (state_was contents flops) (state_left contents flops) (was inputs) (was values) (left values) }
 {
     let mut i = 0;
     while i < k {
@@ -59,8 +59,8 @@ fn row_planned(
     values: &mut [u8],
     wires: &mut [u8],
 ) -> Answer
-    requires { Runnable n m plan.now × (length wires.old ≡ wireCount n m) × Bits wires.old }
-    ensures { RowPlanned (was plan) n m (stateWas contents flops) (stateLeft contents flops) (was inputs) (was values) (left values) result }
+    requires { Runnable n m plan.now × (length wires.old ≡ wire_count n m) × Bits wires.old }
+    ensures { RowPlanned (was plan) n m (state_was contents flops) (state_left contents flops) (was inputs) (was values) (left values) result }
 {
     let k = clock_count(inputs, m);
     let edges = plan::edges(plan, n);

@@ -6,84 +6,84 @@ use Prim.Native.Nat.{ℕ, zero, suc, ◌+◌, ◌-◌, ◌*◌, ◌%◌, ◌≤�
 use native.Mathlib.Omega.{arith}
 use lib.Dec.{ltb, leb, eqb}
 use lib.ListN.{length, drop}
-use Rattle.slicefile.specs.Format.{sliceLimit, sizeTag, sliceTag, endTag, headLength, bodyLength, recordLength, byte_at, pair_at, body_of, sliceCount, inputCount, numberByte}
-use Rattle.rules.specs.Rules.{given, ◌orElse◌, badChoice, badCombination, badDriver, bodyRefusal}
-use Rattle.framing.specs.Framing.{headerRefusal, badSize, sliceRefusal, sizeRefusal}
-use Rattle.framing.proofs.RecordLaws.{size-tells}
-use Rattle.column.specs.File.{recordStart, fileLimit}
-use Rattle.column.specs.Check.{firstBad, checkEnd, checkSlices, checkFile, checkFrom}
+use Rattle.slicefile.specs.Format.{slice_limit, size_tag, slice_tag, end_tag, head_length, body_length, record_length, byte_at, pair_at, body_of, slice_count, input_count, number_byte}
+use Rattle.rules.specs.Rules.{given, ◌orElse◌, bad_choice, bad_combination, bad_driver, body_refusal}
+use Rattle.framing.specs.Framing.{header_refusal, bad_size, slice_refusal, size_refusal}
+use Rattle.framing.proofs.RecordLaws.{size_tells}
+use Rattle.column.specs.File.{record_start, file_limit}
+use Rattle.column.specs.Check.{first_bad, check_end, check_slices, check_file, check_from}
 use Rattle.column.specs.declared.Checked.{Checked}
 use Rattle.column.specs.declared.Checked.TheVariants.{Bad, Sound}
-use Rattle.column.proofs.Places.{start-at}
+use Rattle.column.proofs.Places.{start_at}
 use Rattle.column.proofs.CheckLaws.{from_start}
 
 -- a number given by tests is at most the largest of them
 module _ {most : ℕ} where
-  pub given-most : (k : ℕ) (b : Bool) → k ≤ most → given k b ≤ most
-  given-most k true h = h
-  given-most k false h = omega arith
+  pub given_most : (k : ℕ) (b : Bool) → k ≤ most → given k b ≤ most
+  given_most k true h = h
+  given_most k false h = omega arith
 
-  pub orElse-most : (a b : ℕ) → a ≤ most → b ≤ most → (a or_else b) ≤ most
-  orElse-most zero b h l = l
-  orElse-most (suc a) b h l = h
+  pub or_else_most : (a b : ℕ) → a ≤ most → b ≤ most → (a or_else b) ≤ most
+  or_else_most zero b h l = l
+  or_else_most (suc a) b h l = h
 
   -- the first of several tests
-  pub test-most : (k : ℕ) (b : Bool) {rest : ℕ} → k ≤ most → rest ≤ most → (given k b or_else rest) ≤ most
-  test-most k b {rest} h l = orElse-most (given k b) rest (given-most k b h) l
+  pub test_most : (k : ℕ) (b : Bool) {rest : ℕ} → k ≤ most → rest ≤ most → (given k b or_else rest) ≤ most
+  test_most k b {rest} h l = or_else_most (given k b) rest (given_most k b h) l
 
-pub header-most : (due : ℕ) (s : List ℕ) → headerRefusal due s ≤ 8
-unfolding headerRefusal
-header-most due s =
-    test-most 1 (ltb (length s) headLength) (omega arith)
-    (test-most 2 (not (leb sizeTag (byte_at s 0) && leb (byte_at s 0) endTag)) (omega arith)
-    (test-most 4 (not (eqb (byte_at s 0) due)) (omega arith)
-    (test-most 3 (not (eqb (pair_at s 1) (bodyLength due))) (omega arith) (given-most 1 (ltb (length s) (recordLength due)) (omega arith)))))
+pub header_most : (due : ℕ) (s : List ℕ) → header_refusal due s ≤ 8
+unfolding header_refusal
+header_most due s =
+    test_most 1 (ltb (length s) head_length) (omega arith)
+    (test_most 2 (not (leb size_tag (byte_at s 0) && leb (byte_at s 0) end_tag)) (omega arith)
+    (test_most 4 (not (eqb (byte_at s 0) due)) (omega arith)
+    (test_most 3 (not (eqb (pair_at s 1) (body_length due))) (omega arith) (given_most 1 (ltb (length s) (record_length due)) (omega arith)))))
 
-pub body-most : (n m number : ℕ) (body : List ℕ) → bodyRefusal n m number body ≤ 8
-unfolding bodyRefusal
-body-most n m number body =
-    test-most 4 (not (eqb (numberByte body) (number % 256))) (omega arith)
-    (test-most 5 (badChoice body) (omega arith)
-    (test-most 6 (badCombination number body) (omega arith) (given-most 7 (badDriver n m body) (omega arith))))
+pub body_most : (n m number : ℕ) (body : List ℕ) → body_refusal n m number body ≤ 8
+unfolding body_refusal
+body_most n m number body =
+    test_most 4 (not (eqb (number_byte body) (number % 256))) (omega arith)
+    (test_most 5 (bad_choice body) (omega arith)
+    (test_most 6 (bad_combination number body) (omega arith) (given_most 7 (bad_driver n m body) (omega arith))))
 
-slice-most : (n m number : ℕ) (s : List ℕ) → sliceRefusal n m number s ≤ 8
-unfolding sliceRefusal
-slice-most n m number s = orElse-most (headerRefusal sliceTag s) _ (header-most sliceTag s) (body-most n m number (body_of sliceTag s))
+slice_most : (n m number : ℕ) (s : List ℕ) → slice_refusal n m number s ≤ 8
+unfolding slice_refusal
+slice_most n m number s = or_else_most (header_refusal slice_tag s) _ (header_most slice_tag s) (body_most n m number (body_of slice_tag s))
 
-size-most : (s : List ℕ) → sizeRefusal s ≤ 8
-unfolding sizeRefusal
-size-most s = orElse-most (headerRefusal sizeTag s) _ (header-most sizeTag s) (given-most 5 (badSize (byte_at s 3) (byte_at s 4)) (omega arith))
+size_most : (s : List ℕ) → size_refusal s ≤ 8
+unfolding size_refusal
+size_most s = or_else_most (header_refusal size_tag s) _ (header_most size_tag s) (given_most 5 (bad_size (byte_at s 3) (byte_at s 4)) (omega arith))
 
 -- what the records say of a file
 abbrev pub SmallChecked : Checked → Type 0
-SmallChecked (Bad k p) = (1 ≤ k) × (k ≤ 8) × (p ≤ fileLimit)
+SmallChecked (Bad k p) = (1 ≤ k) × (k ≤ 8) × (p ≤ file_limit)
 SmallChecked (Sound n m) = Unit {0}
 
-first_small : (r place : ℕ) (rest : Checked) → r ≤ 8 → place ≤ fileLimit → (r ≡ 0 → SmallChecked rest) → SmallChecked (firstBad r place rest)
+first_small : (r place : ℕ) (rest : Checked) → r ≤ 8 → place ≤ file_limit → (r ≡ 0 → SmallChecked rest) → SmallChecked (first_bad r place rest)
 first_small zero place rest h l later = later refl
 first_small (suc r) place rest h l later = (omega arith, h, l)
 
-end-small : (n m place : ℕ) (s : List ℕ) → place + recordLength endTag ≤ fileLimit → SmallChecked (checkEnd n m place s)
-unfolding checkEnd
-end-small n m place s l =
-    first_small (headerRefusal endTag s) place _ (header-most endTag s) (omega arith)
-    (λ z. first_small (given 8 (ltb (recordLength endTag) (length s))) (place + recordLength endTag) (Sound n m) (given-most 8 (ltb (recordLength endTag) (length s)) (omega arith)) l (λ y. tt))
+end_small : (n m place : ℕ) (s : List ℕ) → place + record_length end_tag ≤ file_limit → SmallChecked (check_end n m place s)
+unfolding check_end
+end_small n m place s l =
+    first_small (header_refusal end_tag s) place _ (header_most end_tag s) (omega arith)
+    (λ z. first_small (given 8 (ltb (record_length end_tag) (length s))) (place + record_length end_tag) (Sound n m) (given_most 8 (ltb (record_length end_tag) (length s)) (omega arith)) l (λ y. tt))
 
-slices-small : (n m left s place : ℕ) (bytes : List ℕ) → place + recordLength sliceTag * left + recordLength endTag ≤ fileLimit
-    → SmallChecked (checkSlices n m left s place bytes)
-unfolding checkSlices
-slices-small n m zero s place bytes l = end-small n m place bytes (omega arith)
-slices-small n m (suc left) s place bytes l =
-    first_small (sliceRefusal n m s bytes) place _ (slice-most n m s bytes) (omega arith)
-    (λ z. slices-small n m left (suc s) (place + recordLength sliceTag) (drop (recordLength sliceTag) bytes) (omega arith))
+slices_small : (n m left s place : ℕ) (bytes : List ℕ) → place + record_length slice_tag * left + record_length end_tag ≤ file_limit
+    → SmallChecked (check_slices n m left s place bytes)
+unfolding check_slices
+slices_small n m zero s place bytes l = end_small n m place bytes (omega arith)
+slices_small n m (suc left) s place bytes l =
+    first_small (slice_refusal n m s bytes) place _ (slice_most n m s bytes) (omega arith)
+    (λ z. slices_small n m left (suc s) (place + record_length slice_tag) (drop (record_length slice_tag) bytes) (omega arith))
 
 -- also where the check is taken up at a slice
-pub from-small : (file : List ℕ) (s : ℕ) → s ≤ sliceLimit → SmallChecked (checkFrom s file)
-unfolding checkFrom
-from-small file s h =
-    first_small (sizeRefusal file) 0 _ (size-most file) (omega arith)
-    (λ z. slices-small (sliceCount file) (inputCount file) (sliceCount file - s) s (recordStart file s) (drop (recordStart file s) file)
-    (omega (arith, start-at file s, (size-tells file z).1)))
+pub from_small : (file : List ℕ) (s : ℕ) → s ≤ slice_limit → SmallChecked (check_from s file)
+unfolding check_from
+from_small file s h =
+    first_small (size_refusal file) 0 _ (size_most file) (omega arith)
+    (λ z. slices_small (slice_count file) (input_count file) (slice_count file - s) s (record_start file s) (drop (record_start file s) file)
+    (omega (arith, start_at file s, (size_tells file z).1)))
 
-pub checked-small : (file : List ℕ) → SmallChecked (checkFile file)
-checked-small file = subst SmallChecked (from_start file) (from-small file 0 (omega arith))
+pub checked_small : (file : List ℕ) → SmallChecked (check_file file)
+checked_small file = subst SmallChecked (from_start file) (from_small file 0 (omega arith))

@@ -31,11 +31,11 @@ unfoldable pub all_below : ℕ → (ℕ → Bool) → Bool
 all_below zero f = true
 all_below (suc k) f = f k && all_below k f
 
-pub all-at : (k : ℕ) (f : ℕ → Bool) → T (all_below k f) → (x : ℕ) → x < k → T (f x)
+pub all_at : (k : ℕ) (f : ℕ → Bool) → T (all_below k f) → (x : ℕ) → x < k → T (f x)
 unfolding all_below
-all-at zero f t x h = absurd (not-suc-le-zero h)
-all-at (suc k) f t x h =
-    ⊎_elim (λ e. subst (λ (y : ℕ). T (f y)) (sym e) (and_left (f k) (all_below k f) t)) (λ l. all-at k f (and_right (f k) (all_below k f) t) x l)
+all_at zero f t x h = absurd (not-suc-le-zero h)
+all_at (suc k) f t x h =
+    ⊎_elim (λ e. subst (λ (y : ℕ). T (f y)) (sym e) (and_left (f k) (all_below k f) t)) (λ l. all_at k f (and_right (f k) (all_below k f) t) x l)
     (eq-or-lt_of_le (le_of_suc-le-suc h))
 
 -- a list names just its members
@@ -48,81 +48,81 @@ member [] y t = absurd t
 member (x ∷ xs) y t = ⊎_elim (λ e. Memᴰ.head (eqb→eq y x e)) (λ u. Memᴰ.tail (member xs y u)) (or_cases (eqb y x) (names xs y) t)
 
 -- a number that a joined list names is named by one of the two
-names-cases : (xs ys : List ℕ) (x : ℕ) → T (names (xs ++ ys) x) → T (names xs x) ⊎ T (names ys x)
-names-cases [] ys x t = inr t
-names-cases (z ∷ zs) ys x t =
-    ⊎_elim (λ e. inl (or_left (eqb x z) (names zs x) e)) (λ u. ⊎_elim (λ v. inl (or_right (eqb x z) (names zs x) v)) inr (names-cases zs ys x u))
+names_cases : (xs ys : List ℕ) (x : ℕ) → T (names (xs ++ ys) x) → T (names xs x) ⊎ T (names ys x)
+names_cases [] ys x t = inr t
+names_cases (z ∷ zs) ys x t =
+    ⊎_elim (λ e. inl (or_left (eqb x z) (names zs x) e)) (λ u. ⊎_elim (λ v. inl (or_right (eqb x z) (names zs x) v)) inr (names_cases zs ys x u))
     (or_cases (eqb x z) (names (zs ++ ys) x) t)
 
 -- each of the first list is named by the second
-abbrev pub allNamed : List ℕ → List ℕ → Bool
-allNamed [] zs = true
-allNamed (y ∷ ys) zs = names zs y && allNamed ys zs
+abbrev pub all_named : List ℕ → List ℕ → Bool
+all_named [] zs = true
+all_named (y ∷ ys) zs = names zs y && all_named ys zs
 
 -- what the listed signals read is named by zs
-abbrev pub readWithin : (ℕ → List ℕ) → List ℕ → List ℕ → Bool
-readWithin reads [] zs = true
-readWithin reads (x ∷ xs) zs = allNamed (reads x) zs && readWithin reads xs zs
+abbrev pub read_within : (ℕ → List ℕ) → List ℕ → List ℕ → Bool
+read_within reads [] zs = true
+read_within reads (x ∷ xs) zs = all_named (reads x) zs && read_within reads xs zs
 
 -- the order, latest first, stands over a base that is closed under reads: each signal reads only signals after it in the list, or of the base
 abbrev pub ordered : (ℕ → List ℕ) → List ℕ → List ℕ → Bool
-ordered reads [] base = readWithin reads base base
-ordered reads (x ∷ xs) base = allNamed (reads x) (xs ++ base) && ordered reads xs base
+ordered reads [] base = read_within reads base base
+ordered reads (x ∷ xs) base = all_named (reads x) (xs ++ base) && ordered reads xs base
 
 -- z is read at the end of a chain from x through ys
 abbrev pub chained : (ℕ → List ℕ) → ℕ → List ℕ → ℕ → Bool
 chained reads x [] z = names (reads x) z
 chained reads x (y ∷ ys) z = names (reads x) y && chained reads y ys z
 
-named-at : (ys zs : List ℕ) → T (allNamed ys zs) → {y : ℕ} → Memᴰ y ys → T (names zs y)
-named-at ys zs t (Memᴰ.head {x = x} {xs = xs} e) = subst (λ (v : ℕ). T (names zs v)) (sym e) (and_left (names zs x) (allNamed xs zs) t)
-named-at ys zs t (Memᴰ.tail {x = x} {xs = xs} m) = named-at xs zs (and_right (names zs x) (allNamed xs zs) t) m
+named_at : (ys zs : List ℕ) → T (all_named ys zs) → {y : ℕ} → Memᴰ y ys → T (names zs y)
+named_at ys zs t (Memᴰ.head {x = x} {xs = xs} e) = subst (λ (v : ℕ). T (names zs v)) (sym e) (and_left (names zs x) (all_named xs zs) t)
+named_at ys zs t (Memᴰ.tail {x = x} {xs = xs} m) = named_at xs zs (and_right (names zs x) (all_named xs zs) t) m
 
 module _ (reads : ℕ → List ℕ) where
-  within-at : (xs zs : List ℕ) → T (readWithin reads xs zs) → (x y : ℕ) → T (names xs x) → Reads reads x y → T (names zs y)
-  within-at [] zs t x y h r = absurd h
-  within-at (w ∷ ws) zs t x y h r =
+  within_at : (xs zs : List ℕ) → T (read_within reads xs zs) → (x y : ℕ) → T (names xs x) → Reads reads x y → T (names zs y)
+  within_at [] zs t x y h r = absurd h
+  within_at (w ∷ ws) zs t x y h r =
       ⊎_elim
-      (λ e. named-at (reads w) zs (and_left (allNamed (reads w) zs) (readWithin reads ws zs) t) (subst (λ (v : ℕ). Reads reads v y) (eqb→eq x w e) r))
-      (λ u. within-at ws zs (and_right (allNamed (reads w) zs) (readWithin reads ws zs) t) x y u r)
+      (λ e. named_at (reads w) zs (and_left (all_named (reads w) zs) (read_within reads ws zs) t) (subst (λ (v : ℕ). Reads reads v y) (eqb→eq x w e) r))
+      (λ u. within_at ws zs (and_right (all_named (reads w) zs) (read_within reads ws zs) t) x y u r)
       (or_cases (eqb x w) (names ws x) h)
 
   -- an order with its base is closed under direct reads
-  step-within : (xs base : List ℕ) → T (ordered reads xs base) → (x y : ℕ) → T (names (xs ++ base) x) → Reads reads x y → T (names (xs ++ base) y)
-  step-within [] base t x y h r = within-at base base t x y h r
-  step-within (w ∷ ws) base t x y h r =
+  step_within : (xs base : List ℕ) → T (ordered reads xs base) → (x y : ℕ) → T (names (xs ++ base) x) → Reads reads x y → T (names (xs ++ base) y)
+  step_within [] base t x y h r = within_at base base t x y h r
+  step_within (w ∷ ws) base t x y h r =
       or_right (eqb y w) (names (ws ++ base) y)
       (⊎_elim
-      (λ e. named-at (reads w) (ws ++ base) (and_left (allNamed (reads w) (ws ++ base)) (ordered reads ws base) t) (subst (λ (v : ℕ). Reads reads v y) (eqb→eq x w e) r))
-      (λ u. step-within ws base (and_right (allNamed (reads w) (ws ++ base)) (ordered reads ws base) t) x y u r)
+      (λ e. named_at (reads w) (ws ++ base) (and_left (all_named (reads w) (ws ++ base)) (ordered reads ws base) t) (subst (λ (v : ℕ). Reads reads v y) (eqb→eq x w e) r))
+      (λ u. step_within ws base (and_right (all_named (reads w) (ws ++ base)) (ordered reads ws base) t) x y u r)
       (or_cases (eqb x w) (names (ws ++ base) x) h))
 
   -- and under dependence
-  depends-within : (xs base : List ℕ) → T (ordered reads xs base) → {x y : ℕ} → T (names (xs ++ base) x) → Depends reads x y → T (names (xs ++ base) y)
-  depends-within xs base t {x} {y} h (direct r) = step-within xs base t x y h r
-  depends-within xs base t {x} {y} h (through {y = w} r d) = depends-within xs base t (step-within xs base t x w h r) d
+  depends_within : (xs base : List ℕ) → T (ordered reads xs base) → {x y : ℕ} → T (names (xs ++ base) x) → Depends reads x y → T (names (xs ++ base) y)
+  depends_within xs base t {x} {y} h (direct r) = step_within xs base t x y h r
+  depends_within xs base t {x} {y} h (through {y = w} r d) = depends_within xs base t (step_within xs base t x w h r) d
 
   -- what an ordered signal depends on comes after it in the list, or is of the base
-  depends-after : (w : ℕ) (ws base : List ℕ) → T (ordered reads (w ∷ ws) base) → {y : ℕ} → Depends reads w y → T (names (ws ++ base) y)
-  depends-after w ws base t (direct r) = named-at (reads w) (ws ++ base) (and_left (allNamed (reads w) (ws ++ base)) (ordered reads ws base) t) r
-  depends-after w ws base t (through r d) =
-      depends-within ws base (and_right (allNamed (reads w) (ws ++ base)) (ordered reads ws base) t)
-      (named-at (reads w) (ws ++ base) (and_left (allNamed (reads w) (ws ++ base)) (ordered reads ws base) t) r)
+  depends_after : (w : ℕ) (ws base : List ℕ) → T (ordered reads (w ∷ ws) base) → {y : ℕ} → Depends reads w y → T (names (ws ++ base) y)
+  depends_after w ws base t (direct r) = named_at (reads w) (ws ++ base) (and_left (all_named (reads w) (ws ++ base)) (ordered reads ws base) t) r
+  depends_after w ws base t (through r d) =
+      depends_within ws base (and_right (all_named (reads w) (ws ++ base)) (ordered reads ws base) t)
+      (named_at (reads w) (ws ++ base) (and_left (all_named (reads w) (ws ++ base)) (ordered reads ws base) t) r)
       d
 
   -- no signal of the order outside the base depends on itself
   pub no_loop : (xs base : List ℕ) → T (ordered reads xs base) → (x : ℕ) → T (names xs x) → (T (names base x) → ⊥) → Depends reads x x → ⊥
   no_loop [] base t x h out d = h
   no_loop (w ∷ ws) base t x h out d =
-      let rest : T (ordered reads ws base) = and_right (allNamed (reads w) (ws ++ base)) (ordered reads ws base) t in
+      let rest : T (ordered reads ws base) = and_right (all_named (reads w) (ws ++ base)) (ordered reads ws base) t in
       let deeper : T (names ws x) → ⊥ = λ u. no_loop ws base rest x u out d in
       ⊎_elim
-      (λ e. ⊎_elim deeper out (names-cases ws base x (depends-after w ws base t (subst (λ (v : ℕ). Depends reads v x) (eqb→eq x w e) d))))
+      (λ e. ⊎_elim deeper out (names_cases ws base x (depends_after w ws base t (subst (λ (v : ℕ). Depends reads v x) (eqb→eq x w e) d))))
       deeper
       (or_cases (eqb x w) (names ws x) h)
 
-  pub chain-depends : (x : ℕ) (ys : List ℕ) (z : ℕ) → T (chained reads x ys z) → Depends reads x z
-  chain-depends x [] z t = direct (member (reads x) z t)
-  chain-depends x (y ∷ ys) z t =
+  pub chain_depends : (x : ℕ) (ys : List ℕ) (z : ℕ) → T (chained reads x ys z) → Depends reads x z
+  chain_depends x [] z t = direct (member (reads x) z t)
+  chain_depends x (y ∷ ys) z t =
       through (member (reads x) y (and_left (names (reads x) y) (chained reads y ys z) t))
-      (chain-depends y ys z (and_right (names (reads x) y) (chained reads y ys z) t))
+      (chain_depends y ys z (and_right (names (reads x) y) (chained reads y ys z) t))

@@ -1,60 +1,60 @@
--- Where the records of a file stand. Laws above speak of `sizeLength` and `recordStart`; what they are in numbers is said here. Assumes nothing.
+-- Where the records of a file stand. Laws above speak of `size_length` and `record_start`; what they are in numbers is said here. Assumes nothing.
 use mathlib.Core.Path.{◌≡◌, refl}
 use mathlib.Core.List.{List, ◌++◌}
 use Prim.Native.Nat.{ℕ, ◌+◌, ◌*◌, ◌≤◌, ◌<◌}
 use native.Mathlib.Omega.{arith}
 use lib.ListN.{length, drop}
 use lib.Seq.{drop-drop}
-use Rattle.slicefile.specs.Format.{sliceLimit, sizeTag, sliceTag, recordLength}
-use Rattle.framing.specs.Framing.{sizeRefusal}
-use Rattle.framing.proofs.RecordLaws.{size-whole}
-use Rattle.column.specs.File.{sizeLength, sliceTagOf, recordStart, fileLength, fileLimit}
+use Rattle.slicefile.specs.Format.{slice_limit, size_tag, slice_tag, record_length}
+use Rattle.framing.specs.Framing.{size_refusal}
+use Rattle.framing.proofs.RecordLaws.{size_whole}
+use Rattle.column.specs.File.{size_length, slice_tag_of, record_start, file_length, file_limit}
 
 module _ (file : List ℕ) where
   -- ---- in numbers
 
-  pub size-length : sizeLength file ≡ recordLength sizeTag
-  unfolding sizeLength
-  size-length = refl
+  pub size_length_lem : size_length file ≡ record_length size_tag
+  unfolding size_length
+  size_length_lem = refl
 
-  pub start-from : (s : ℕ) → recordStart file s ≡ sizeLength file + recordLength sliceTag * s
-  unfolding recordStart sliceTagOf
-  start-from s = refl
+  pub start_from : (s : ℕ) → record_start file s ≡ size_length file + record_length slice_tag * s
+  unfolding record_start slice_tag_of
+  start_from s = refl
 
-  pub start-at : (s : ℕ) → recordStart file s ≡ recordLength sizeTag + recordLength sliceTag * s
-  start-at s = omega (arith, start-from s, size-length)
+  pub start_at : (s : ℕ) → record_start file s ≡ record_length size_tag + record_length slice_tag * s
+  start_at s = omega (arith, start_from s, size_length_lem)
 
   -- no file of as many slices as there may be is longer than the longest
-  pub file-within : (n : ℕ) → n ≤ sliceLimit → fileLength file n ≤ fileLimit
-  file-within n l = omega (arith, start-at n)
+  pub file_within : (n : ℕ) → n ≤ slice_limit → file_length file n ≤ file_limit
+  file_within n l = omega (arith, start_at n)
 
   -- ---- from record to record
 
   -- a good size record is inside the file
-  pub size-inside : sizeRefusal file ≡ 0 → sizeLength file ≤ length file
-  size-inside good = rw size-length (size-whole file good)
+  pub size_inside : size_refusal file ≡ 0 → size_length file ≤ length file
+  size_inside good = rw size_length_lem (size_whole file good)
 
   -- the first slice stands behind the size record, each other one behind the slice before it
-  pub start_first : recordStart file 0 ≡ sizeLength file
-  start_first = omega (arith, start-from 0)
+  pub start_first : record_start file 0 ≡ size_length file
+  start_first = omega (arith, start_from 0)
 
-  pub start-next : (s : ℕ) → recordStart file (s + 1) ≡ recordStart file s + recordLength sliceTag
-  start-next s = omega (arith, start-from s, start-from (s + 1))
+  pub start_next : (s : ℕ) → record_start file (s + 1) ≡ record_start file s + record_length slice_tag
+  start_next s = omega (arith, start_from s, start_from (s + 1))
 
   -- a slice's record ends before any later record begins
-  pub start-before : {s n : ℕ} → s < n → recordStart file s + recordLength sliceTag ≤ recordStart file n
-  start-before {s} {n} l = omega (arith, start-from s, start-from n)
+  pub start_before : {s n : ℕ} → s < n → record_start file s + record_length slice_tag ≤ record_start file n
+  start_before {s} {n} l = omega (arith, start_from s, start_from n)
 
   -- the bytes from slice s on, counted from the first slice
-  pub drop-start : (s : ℕ) → drop (recordLength sliceTag * s) (drop (sizeLength file) file) ≡ drop (recordStart file s) file
-  drop-start s = rw start-from (drop-drop (recordLength sliceTag * s) (sizeLength file) file)
+  pub drop_start : (s : ℕ) → drop (record_length slice_tag * s) (drop (size_length file) file) ≡ drop (record_start file s) file
+  drop_start s = rw start_from (drop-drop (record_length slice_tag * s) (size_length file) file)
 
   -- bytes after a file don't move its first slice
-  pub length-stays : (x : List ℕ) → sizeLength (file ++ x) ≡ sizeLength file
-  unfolding sizeLength
-  length-stays x = refl
+  pub length_stays : (x : List ℕ) → size_length (file ++ x) ≡ size_length file
+  unfolding size_length
+  length_stays x = refl
 
   -- nor its other records
-  pub start-stays : (x : List ℕ) (s : ℕ) → recordStart (file ++ x) s ≡ recordStart file s
-  unfolding recordStart sliceTagOf sizeLength
-  start-stays x s = refl
+  pub start_stays : (x : List ℕ) (s : ℕ) → record_start (file ++ x) s ≡ record_start file s
+  unfolding record_start slice_tag_of size_length
+  start_stays x s = refl

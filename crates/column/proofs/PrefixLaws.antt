@@ -12,161 +12,161 @@ use lib.Dec.{ltb}
 use native.Mathlib.Nat.{add-zero}
 use lib.ListN.{length, take, drop, length-append, length-drop, length-take, take-append-drop, get_or-append}
 use lib.Seq.{take_all, drop-append-le}
-use Rattle.slicefile.specs.Format.{sliceTag, endTag, recordLength, sliceCount, inputCount}
+use Rattle.slicefile.specs.Format.{slice_tag, end_tag, record_length, slice_count, input_count}
 use Rattle.rules.specs.Rules.{given}
-use Rattle.framing.specs.Framing.{headerRefusal, sliceRefusal, sizeRefusal}
-use Rattle.framing.proofs.RecordLaws.{header-whole, slice-whole, size-whole, size-tells}
-use Rattle.framing.proofs.PrefixLaws.{header-stays, header-cut, slice-stays, slice_cut, size-stays, size-cut}
-use Rattle.column.specs.File.{sizeLength, fileLimit}
-use Rattle.column.specs.Check.{firstBad, checkEnd, checkSlices, checkFile}
+use Rattle.framing.specs.Framing.{header_refusal, slice_refusal, size_refusal}
+use Rattle.framing.proofs.RecordLaws.{header_whole, slice_whole, size_whole, size_tells}
+use Rattle.framing.proofs.PrefixLaws.{header_stays, header_cut, slice_stays, slice_cut, size_stays, size_cut}
+use Rattle.column.specs.File.{size_length, file_limit}
+use Rattle.column.specs.Check.{first_bad, check_end, check_slices, check_file}
 use Rattle.column.specs.Judge.{Judged, bad, accepted, loop}
 use Rattle.column.specs.declared.Checked.{Checked}
 use Rattle.column.specs.declared.Checked.TheVariants.{Bad, Sound}
 use Rattle.column.specs.declared.Verdict.{Verdict}
 use Rattle.column.specs.declared.Verdict.TheVariants.{Refused}
-use Rattle.column.proofs.Places.{start-from, file-within, size-inside, length-stays}
-use Rattle.column.proofs.CheckLaws.{bad-first, good-first}
-use Rattle.column.proofs.SoundLaws.{sound-first, sound-file}
+use Rattle.column.proofs.Places.{start_from, file_within, size_inside, length_stays}
+use Rattle.column.proofs.CheckLaws.{bad_first, good_first}
+use Rattle.column.proofs.SoundLaws.{sound_first, sound_file}
 
 -- a refusal is the first record's, or the rest's
-bad-cases : (r place : ℕ) (rest : Checked) {k p : ℕ} → firstBad r place rest ≡ Bad k p → ((r ≡ 0) × (rest ≡ Bad k p)) ⊎ ((r ≡ k) × (Bad r place ≡ Bad k p) × (r ≡ 0 → ⊥))
-bad-cases zero place rest e = inl (refl, e)
-bad-cases (suc r) place rest e = inr (cc, e, λ z. omega arith)
+bad_cases : (r place : ℕ) (rest : Checked) {k p : ℕ} → first_bad r place rest ≡ Bad k p → ((r ≡ 0) × (rest ≡ Bad k p)) ⊎ ((r ≡ k) × (Bad r place ≡ Bad k p) × (r ≡ 0 → ⊥))
+bad_cases zero place rest e = inl (refl, e)
+bad_cases (suc r) place rest e = inr (cc, e, λ z. omega arith)
 
 -- a record whose refusal does not change, and the rest likewise
-first-stays :
+first_stays :
     (r r' place : ℕ) (rest rest' : Checked) {k p : ℕ} → (k ≡ 1 → ⊥) → ((r ≡ 1 → ⊥) → r' ≡ r) → (r ≡ 0 → rest ≡ Bad k p → rest' ≡ Bad k p)
-    → firstBad r place rest ≡ Bad k p → firstBad r' place rest' ≡ Bad k p
-first-stays r r' place rest rest' ne same later e =
-    ⊎_elim (λ h. good-first r' place rest' (same (λ z. omega (arith, h.0)) ∙ h.0) ∙ later h.0 h.1)
+    → first_bad r place rest ≡ Bad k p → first_bad r' place rest' ≡ Bad k p
+first_stays r r' place rest rest' ne same later e =
+    ⊎_elim (λ h. good_first r' place rest' (same (λ z. omega (arith, h.0)) ∙ h.0) ∙ later h.0 h.1)
     (λ h.
     let here : r' ≡ r = same (λ z. ne (sym h.0 ∙ z)) in
-    sym (bad-first r' place rest' (λ z. h.2 (sym here ∙ z))) ∙ ap (λ (j : ℕ). Bad j place) here ∙ h.1)
-    (bad-cases r place rest e)
+    sym (bad_first r' place rest' (λ z. h.2 (sym here ∙ z))) ∙ ap (λ (j : ℕ). Bad j place) here ∙ h.1)
+    (bad_cases r place rest e)
 
 -- bytes after the end record stay
-over-stays :
-    (t t' : Bool) (place n m : ℕ) {k p : ℕ} → (t ≡ true → t' ≡ true) → firstBad (given 8 t) place (Sound n m) ≡ Bad k p
-    → firstBad (given 8 t') place (Sound n m) ≡ Bad k p
-over-stays true t' place n m f e = rw (f refl) e
-over-stays false t' place n m f e = let z : ◌≡◌ {A = ℕ} 0 1 = cc in absurd (omega arith)
+over_stays :
+    (t t' : Bool) (place n m : ℕ) {k p : ℕ} → (t ≡ true → t' ≡ true) → first_bad (given 8 t) place (Sound n m) ≡ Bad k p
+    → first_bad (given 8 t') place (Sound n m) ≡ Bad k p
+over_stays true t' place n m f e = rw (f refl) e
+over_stays false t' place n m f e = let z : ◌≡◌ {A = ℕ} 0 1 = cc in absurd (omega arith)
 
 module _ (n m : ℕ) (x : List ℕ) where
-  end_stays : (place : ℕ) (bytes : List ℕ) {k p : ℕ} → (k ≡ 1 → ⊥) → checkEnd n m place bytes ≡ Bad k p → checkEnd n m place (bytes ++ x) ≡ Bad k p
-  unfolding checkEnd
+  end_stays : (place : ℕ) (bytes : List ℕ) {k p : ℕ} → (k ≡ 1 → ⊥) → check_end n m place bytes ≡ Bad k p → check_end n m place (bytes ++ x) ≡ Bad k p
+  unfolding check_end
   end_stays place bytes ne =
-      first-stays (headerRefusal endTag bytes) (headerRefusal endTag (bytes ++ x)) place _ _ ne (header-stays endTag bytes x)
-      (λ z. over-stays (ltb (recordLength endTag) (length bytes)) (ltb (recordLength endTag) (length (bytes ++ x))) (place + recordLength endTag) n m
-      (λ t. lt-ltb (recordLength endTag) (length (bytes ++ x)) (omega (arith, ltb-true (recordLength endTag) (length bytes) t, length-append bytes x))))
+      first_stays (header_refusal end_tag bytes) (header_refusal end_tag (bytes ++ x)) place _ _ ne (header_stays end_tag bytes x)
+      (λ z. over_stays (ltb (record_length end_tag) (length bytes)) (ltb (record_length end_tag) (length (bytes ++ x))) (place + record_length end_tag) n m
+      (λ t. lt-ltb (record_length end_tag) (length (bytes ++ x)) (omega (arith, ltb-true (record_length end_tag) (length bytes) t, length-append bytes x))))
 
-  slices-stay : (left s place : ℕ) (bytes : List ℕ) {k p : ℕ} → (k ≡ 1 → ⊥) → checkSlices n m left s place bytes ≡ Bad k p
-      → checkSlices n m left s place (bytes ++ x) ≡ Bad k p
-  unfolding checkSlices
-  slices-stay zero s place bytes ne e = end_stays place bytes ne e
-  slices-stay (suc left) s place bytes ne e =
-      first-stays (sliceRefusal n m s bytes) (sliceRefusal n m s (bytes ++ x)) place _ _ ne (slice-stays n m s bytes x)
-      (λ z later. rw (drop-append-le (recordLength sliceTag) bytes x (slice-whole n m s bytes z))
-      (slices-stay left (suc s) (place + recordLength sliceTag) (drop (recordLength sliceTag) bytes) ne later))
+  slices_stay : (left s place : ℕ) (bytes : List ℕ) {k p : ℕ} → (k ≡ 1 → ⊥) → check_slices n m left s place bytes ≡ Bad k p
+      → check_slices n m left s place (bytes ++ x) ≡ Bad k p
+  unfolding check_slices
+  slices_stay zero s place bytes ne e = end_stays place bytes ne e
+  slices_stay (suc left) s place bytes ne e =
+      first_stays (slice_refusal n m s bytes) (slice_refusal n m s (bytes ++ x)) place _ _ ne (slice_stays n m s bytes x)
+      (λ z later. rw (drop-append-le (record_length slice_tag) bytes x (slice_whole n m s bytes z))
+      (slices_stay left (suc s) (place + record_length slice_tag) (drop (record_length slice_tag) bytes) ne later))
       e
 
   -- sound slices with bytes after them
   module _ (some : 0 < length x) where
-    end-over : (place : ℕ) (bytes : List ℕ) {i j : ℕ} → checkEnd n m place bytes ≡ Sound i j → checkEnd n m place (bytes ++ x) ≡ Bad 8 (place + recordLength endTag)
-    unfolding checkEnd
-    end-over place bytes e =
-        let z = (sound-first (headerRefusal endTag bytes) place _ e).0 in
-        let more : ltb (recordLength endTag) (length (bytes ++ x)) ≡ true = lt-ltb (recordLength endTag) (length (bytes ++ x)) (omega (arith, header-whole endTag bytes z, length-append bytes x)) in
-        simp (header-stays endTag bytes x (λ o. omega (arith, z)), z, more)
+    end_over : (place : ℕ) (bytes : List ℕ) {i j : ℕ} → check_end n m place bytes ≡ Sound i j → check_end n m place (bytes ++ x) ≡ Bad 8 (place + record_length end_tag)
+    unfolding check_end
+    end_over place bytes e =
+        let z = (sound_first (header_refusal end_tag bytes) place _ e).0 in
+        let more : ltb (record_length end_tag) (length (bytes ++ x)) ≡ true = lt-ltb (record_length end_tag) (length (bytes ++ x)) (omega (arith, header_whole end_tag bytes z, length-append bytes x)) in
+        simp (header_stays end_tag bytes x (λ o. omega (arith, z)), z, more)
 
-    slices-over : (left s place : ℕ) (bytes : List ℕ) {i j : ℕ} → checkSlices n m left s place bytes ≡ Sound i j
-        → checkSlices n m left s place (bytes ++ x) ≡ Bad 8 (place + recordLength sliceTag * left + recordLength endTag)
-    unfolding checkSlices
-    slices-over zero s place bytes e = rw (add-zero place) (end-over place bytes e)
-    slices-over (suc left) s place bytes e =
-        let r = sound-first (sliceRefusal n m s bytes) place _ e in
-        let next = place + recordLength sliceTag in
-        let f : place + recordLength sliceTag * suc left ≡ next + recordLength sliceTag * left = omega arith in
-        good-first (sliceRefusal n m s (bytes ++ x)) place _ (slice-stays n m s bytes x (λ o. omega (arith, r.0)) ∙ r.0)
-        ∙ rw (drop-append-le (recordLength sliceTag) bytes x (slice-whole n m s bytes r.0), f) (slices-over left (suc s) next (drop (recordLength sliceTag) bytes) r.1)
+    slices_over : (left s place : ℕ) (bytes : List ℕ) {i j : ℕ} → check_slices n m left s place bytes ≡ Sound i j
+        → check_slices n m left s place (bytes ++ x) ≡ Bad 8 (place + record_length slice_tag * left + record_length end_tag)
+    unfolding check_slices
+    slices_over zero s place bytes e = rw (add-zero place) (end_over place bytes e)
+    slices_over (suc left) s place bytes e =
+        let r = sound_first (slice_refusal n m s bytes) place _ e in
+        let next = place + record_length slice_tag in
+        let f : place + record_length slice_tag * suc left ≡ next + record_length slice_tag * left = omega arith in
+        good_first (slice_refusal n m s (bytes ++ x)) place _ (slice_stays n m s bytes x (λ o. omega (arith, r.0)) ∙ r.0)
+        ∙ rw (drop-append-le (record_length slice_tag) bytes x (slice_whole n m s bytes r.0), f) (slices_over left (suc s) next (drop (record_length slice_tag) bytes) r.1)
 
 -- slices that are cut
-slices-cut : (n m left s place : ℕ) (bytes : List ℕ) {p : ℕ} → checkSlices n m left s place bytes ≡ Bad 1 p
-    → length bytes < recordLength sliceTag * left + recordLength endTag
-unfolding checkSlices checkEnd
-slices-cut n m zero s place bytes e =
-    ⊎_elim (λ h. absurd (over-not-one (ltb (recordLength endTag) (length bytes)) h.1)) (λ h. omega (arith, header-cut endTag bytes h.0))
-    (bad-cases (headerRefusal endTag bytes) place _ e)
+slices_cut : (n m left s place : ℕ) (bytes : List ℕ) {p : ℕ} → check_slices n m left s place bytes ≡ Bad 1 p
+    → length bytes < record_length slice_tag * left + record_length end_tag
+unfolding check_slices check_end
+slices_cut n m zero s place bytes e =
+    ⊎_elim (λ h. absurd (over_not_one (ltb (record_length end_tag) (length bytes)) h.1)) (λ h. omega (arith, header_cut end_tag bytes h.0))
+    (bad_cases (header_refusal end_tag bytes) place _ e)
   where
-    over-not-one : (t : Bool) {p : ℕ} → firstBad (given 8 t) (place + recordLength endTag) (Sound n m) ≡ Bad 1 p → ⊥
-    over-not-one true e = let z : ◌≡◌ {A = ℕ} 8 1 = cc in omega arith
-    over-not-one false e = let z : ◌≡◌ {A = ℕ} 0 1 = cc in omega arith
-slices-cut n m (suc left) s place bytes e =
+    over_not_one : (t : Bool) {p : ℕ} → first_bad (given 8 t) (place + record_length end_tag) (Sound n m) ≡ Bad 1 p → ⊥
+    over_not_one true e = let z : ◌≡◌ {A = ℕ} 8 1 = cc in omega arith
+    over_not_one false e = let z : ◌≡◌ {A = ℕ} 0 1 = cc in omega arith
+slices_cut n m (suc left) s place bytes e =
     ⊎_elim
-    (λ h. omega (arith, slices-cut n m left (suc s) (place + recordLength sliceTag) (drop (recordLength sliceTag) bytes) h.1, length-drop (recordLength sliceTag) bytes))
+    (λ h. omega (arith, slices_cut n m left (suc s) (place + record_length slice_tag) (drop (record_length slice_tag) bytes) h.1, length-drop (record_length slice_tag) bytes))
     (λ h. omega (arith, slice_cut n m s bytes h.0))
-    (bad-cases (sliceRefusal n m s bytes) place _ e)
+    (bad_cases (slice_refusal n m s bytes) place _ e)
 
 module _ (file x : List ℕ) where
   -- n and m stand in a whole size record
-  pub count-stays : sizeRefusal file ≡ 0 → sliceCount (file ++ x) ≡ sliceCount file
-  count-stays z = get_or-append file x 0 3 (omega (arith, size-whole file z))
+  pub count_stays : size_refusal file ≡ 0 → slice_count (file ++ x) ≡ slice_count file
+  count_stays z = get_or-append file x 0 3 (omega (arith, size_whole file z))
 
-  pub inputs-stay : sizeRefusal file ≡ 0 → inputCount (file ++ x) ≡ inputCount file
-  inputs-stay z = get_or-append file x 0 4 (omega (arith, size-whole file z))
+  pub inputs_stay : size_refusal file ≡ 0 → input_count (file ++ x) ≡ input_count file
+  inputs_stay z = get_or-append file x 0 4 (omega (arith, size_whole file z))
 
   -- a refusal other than 1 is certain from the bytes seen
-  pub check-stays : {k p : ℕ} → (k ≡ 1 → ⊥) → checkFile file ≡ Bad k p → checkFile (file ++ x) ≡ Bad k p
-  unfolding checkFile
-  check-stays ne e =
-      first-stays (sizeRefusal file) (sizeRefusal (file ++ x)) 0 _ _ ne (size-stays file x)
-      (λ z later. rw (count-stays z, inputs-stay z, length-stays file x, drop-append-le (sizeLength file) file x (size-inside file z))
-      (slices-stay (sliceCount file) (inputCount file) x (sliceCount file) 0 (sizeLength file) (drop (sizeLength file) file) ne later))
+  pub check_stays : {k p : ℕ} → (k ≡ 1 → ⊥) → check_file file ≡ Bad k p → check_file (file ++ x) ≡ Bad k p
+  unfolding check_file
+  check_stays ne e =
+      first_stays (size_refusal file) (size_refusal (file ++ x)) 0 _ _ ne (size_stays file x)
+      (λ z later. rw (count_stays z, inputs_stay z, length_stays file x, drop-append-le (size_length file) file x (size_inside file z))
+      (slices_stay (slice_count file) (input_count file) x (slice_count file) 0 (size_length file) (drop (size_length file) file) ne later))
       e
 
   -- bytes after a sound file are refused at the first of them
-  pub check-over : {n m : ℕ} → 0 < length x → checkFile file ≡ Sound n m → checkFile (file ++ x) ≡ Bad 8 (length file)
-  unfolding checkFile
-  check-over {n} {m} some e =
-      let f = sound-file file e in
-      let r = sound-first (sizeRefusal file) 0 _ e in
-      let at : sizeLength file + recordLength sliceTag * sliceCount file + recordLength endTag ≡ length file = rw (f.count, ← start-from) (sym f.size) in
-      good-first (sizeRefusal (file ++ x)) 0 _ (size-stays file x (λ o. omega (arith, r.0)) ∙ r.0)
-      ∙ rw (count-stays r.0, inputs-stay r.0, length-stays file x, drop-append-le (sizeLength file) file x (size-inside file r.0), ← at)
-      (slices-over (sliceCount file) (inputCount file) x some (sliceCount file) 0 (sizeLength file) (drop (sizeLength file) file) r.1)
+  pub check_over : {n m : ℕ} → 0 < length x → check_file file ≡ Sound n m → check_file (file ++ x) ≡ Bad 8 (length file)
+  unfolding check_file
+  check_over {n} {m} some e =
+      let f = sound_file file e in
+      let r = sound_first (size_refusal file) 0 _ e in
+      let at : size_length file + record_length slice_tag * slice_count file + record_length end_tag ≡ length file = rw (f.count, ← start_from) (sym f.size) in
+      good_first (size_refusal (file ++ x)) 0 _ (size_stays file x (λ o. omega (arith, r.0)) ∙ r.0)
+      ∙ rw (count_stays r.0, inputs_stay r.0, length_stays file x, drop-append-le (size_length file) file x (size_inside file r.0), ← at)
+      (slices_over (slice_count file) (input_count file) x some (slice_count file) 0 (size_length file) (drop (size_length file) file) r.1)
 
 -- bytes that run out are fewer than the longest file's
-pub check-cut : (file : List ℕ) {p : ℕ} → checkFile file ≡ Bad 1 p → length file < fileLimit
-unfolding checkFile
-check-cut file e =
+pub check_cut : (file : List ℕ) {p : ℕ} → check_file file ≡ Bad 1 p → length file < file_limit
+unfolding check_file
+check_cut file e =
     ⊎_elim
-    (λ h. omega (arith, slices-cut (sliceCount file) (inputCount file) (sliceCount file) 0 (sizeLength file) (drop (sizeLength file) file) h.1, length-drop (sizeLength file) file, start-from file (sliceCount file), file-within file (sliceCount file) (size-tells file h.0).1))
-    (λ h. omega (arith, size-cut file h.0))
-    (bad-cases (sizeRefusal file) 0 _ e)
+    (λ h. omega (arith, slices_cut (slice_count file) (input_count file) (slice_count file) 0 (size_length file) (drop (size_length file) file) h.1, length-drop (size_length file) file, start_from file (slice_count file), file_within file (slice_count file) (size_tells file h.0).1))
+    (λ h. omega (arith, size_cut file h.0))
+    (bad_cases (size_refusal file) 0 _ e)
 
 -- a sound file is no longer than the longest
-pub sound-short : (file : List ℕ) {n m : ℕ} → checkFile file ≡ Sound n m → length file ≤ fileLimit
-sound-short file {n} e = let f = sound-file file e in omega (arith, f.size, file-within file n f.slices-fit)
+pub sound_short : (file : List ℕ) {n m : ℕ} → check_file file ≡ Sound n m → length file ≤ file_limit
+sound_short file {n} e = let f = sound_file file e in omega (arith, f.size, file_within file n f.slices_fit)
 
 -- bytes enough for the longest file: a refusal stays, and a sound file is the longest, so that more bytes are refused behind it
-pub full-bad : (start rest : List ℕ) {k p : ℕ} → fileLimit ≤ length start → checkFile start ≡ Bad k p → Judged (start ++ rest) (Refused k p)
-full-bad start rest {k} {p} long e =
-    bad (check-stays start rest (λ z. omega (arith, check-cut start (subst (λ (j : ℕ). checkFile start ≡ Bad j p) z e))) e)
+pub full_bad : (start rest : List ℕ) {k p : ℕ} → file_limit ≤ length start → check_file start ≡ Bad k p → Judged (start ++ rest) (Refused k p)
+full_bad start rest {k} {p} long e =
+    bad (check_stays start rest (λ z. omega (arith, check_cut start (subst (λ (j : ℕ). check_file start ≡ Bad j p) z e))) e)
 
-pub full-over : (start rest : List ℕ) {n m : ℕ} → length start ≡ fileLimit → 0 < length rest → checkFile start ≡ Sound n m → Judged (start ++ rest) (Refused 8 fileLimit)
-full-over start rest full some e = bad (rw full at (check-over start rest some e))
+pub full_over : (start rest : List ℕ) {n m : ℕ} → length start ≡ file_limit → 0 < length rest → check_file start ≡ Sound n m → Judged (start ++ rest) (Refused 8 file_limit)
+full_over start rest full some e = bad (rw full at (check_over start rest some e))
 
 -- one byte more than that decides
-decided : (start rest : List ℕ) {v : Verdict} → fileLimit < length start → Judged start v → Judged (start ++ rest) v
-decided start rest long (bad e) = full-bad start rest (omega arith) e
-decided start rest long (accepted e free) = absurd (omega (arith, sound-short start e))
-decided start rest long (loop e below on least) = absurd (omega (arith, sound-short start e))
+decided : (start rest : List ℕ) {v : Verdict} → file_limit < length start → Judged start v → Judged (start ++ rest) v
+decided start rest long (bad e) = full_bad start rest (omega arith) e
+decided start rest long (accepted e free) = absurd (omega (arith, sound_short start e))
+decided start rest long (loop e below on least) = absurd (omega (arith, sound_short start e))
 
 -- a file is decided by its first 8,137 bytes
-pub start-decides : (file : List ℕ) {v : Verdict} → Judged (take (fileLimit + 1) file) v → Judged file v
-start-decides file {v} j = by_length (dec_lt (fileLimit + 1) (length file))
+pub start_decides : (file : List ℕ) {v : Verdict} → Judged (take (file_limit + 1) file) v → Judged file v
+start_decides file {v} j = by_length (dec_lt (file_limit + 1) (length file))
   where
-    by_length : Dec (fileLimit + 1 < length file) → Judged file v
+    by_length : Dec (file_limit + 1 < length file) → Judged file v
     by_length (yes more) =
-        subst (λ (f : List ℕ). Judged f v) (take-append-drop (fileLimit + 1) file)
-        (decided (take (fileLimit + 1) file) (drop (fileLimit + 1) file) (omega (arith, length-take (fileLimit + 1) file)) j)
-    by_length (no all) = subst (λ (f : List ℕ). Judged f v) (take_all (fileLimit + 1) file (omega arith)) j
+        subst (λ (f : List ℕ). Judged f v) (take-append-drop (file_limit + 1) file)
+        (decided (take (file_limit + 1) file) (drop (file_limit + 1) file) (omega (arith, length-take (file_limit + 1) file)) j)
+    by_length (no all) = subst (λ (f : List ℕ). Judged f v) (take_all (file_limit + 1) file (omega arith)) j

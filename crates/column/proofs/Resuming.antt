@@ -7,15 +7,15 @@ use native.Mathlib.Decide.{ℕ_discrete}
 use native.Mathlib.Omega.{arith}
 use lib.ListN.{drop, length-drop}
 use lib.Seq.{drop-append-le}
-use Rattle.slicefile.specs.Format.{sliceLimit, sliceTag, recordLength, sliceCount, inputCount}
-use Rattle.framing.specs.Framing.{sliceRefusal, sizeRefusal}
-use Rattle.framing.proofs.RecordLaws.{slice-whole, size-tells}
-use Rattle.framing.proofs.PrefixLaws.{slice-stays, size-stays}
-use Rattle.column.specs.File.{recordStart}
-use Rattle.column.specs.Check.{checkFile, checkFrom, passedFrom, GoodBelow, Passed}
-use Rattle.column.proofs.Places.{start-stays}
-use Rattle.column.proofs.CheckLaws.{Stands, size-bad, taken-up, slice-bad, slice-good, slices-end, from_start, after-good}
-use Rattle.column.proofs.PrefixLaws.{count-stays, inputs-stay}
+use Rattle.slicefile.specs.Format.{slice_limit, slice_tag, record_length, slice_count, input_count}
+use Rattle.framing.specs.Framing.{slice_refusal, size_refusal}
+use Rattle.framing.proofs.RecordLaws.{slice_whole, size_tells}
+use Rattle.framing.proofs.PrefixLaws.{slice_stays, size_stays}
+use Rattle.column.specs.File.{record_start}
+use Rattle.column.specs.Check.{check_file, check_from, passed_from, GoodBelow, Passed}
+use Rattle.column.proofs.Places.{start_stays}
+use Rattle.column.proofs.CheckLaws.{Stands, size_bad, taken_up, slice_bad, slice_good, slices_end, from_start, after_good}
+use Rattle.column.proofs.PrefixLaws.{count_stays, inputs_stay}
 
 -- at first none has
 pub none_passed : (file : List ℕ) → Passed file 0
@@ -23,20 +23,20 @@ none_passed file = record { begins = λ l. absurd (omega arith); within = omega 
 
 module _ (file : List ℕ) where
   abbrev refusal : ℕ → ℕ
-  refusal s = sliceRefusal (sliceCount file) (inputCount file) s (drop (recordStart file s) file)
+  refusal s = slice_refusal (slice_count file) (input_count file) s (drop (record_start file s) file)
 
   -- no more slices pass than a file has
-  pub passed-fit : {count : ℕ} → Passed file count → count ≤ sliceLimit
-  passed-fit {count = zero} p = omega arith
-  passed-fit {count = suc s} p = omega (arith, p.within, (size-tells file (p.begins (omega arith))).1)
+  pub passed_fit : {count : ℕ} → Passed file count → count ≤ slice_limit
+  passed_fit {count = zero} p = omega arith
+  passed_fit {count = suc s} p = omega (arith, p.within, (size_tells file (p.begins (omega arith))).1)
 
   -- behind them the check of the file stands where it is taken up
-  pub passed-check : {count : ℕ} → Passed file count → checkFrom count file ≡ checkFile file
-  passed-check {count = zero} p = from_start file
-  passed-check {count = suc s} p =
+  pub passed_check : {count : ℕ} → Passed file count → check_from count file ≡ check_file file
+  passed_check {count = zero} p = from_start file
+  passed_check {count = suc s} p =
       let begins = p.begins (omega arith) in
-      let reached : Stands file 0 (suc s) (recordStart file (suc s)) = after-good file begins (suc s) p.within p.good in
-      (taken-up file begins (suc s) reached.inside).decides ∙ sym reached.decides ∙ from_start file
+      let reached : Stands file 0 (suc s) (record_start file (suc s)) = after_good file begins (suc s) p.within p.good in
+      (taken_up file begins (suc s) reached.inside).decides ∙ sym reached.decides ∙ from_start file
 
   -- one good slice more
   one_more : {s : ℕ} → GoodBelow file s → refusal s ≡ 0 → GoodBelow file (s + 1)
@@ -46,39 +46,39 @@ module _ (file : List ℕ) where
       by_place (yes e) = subst (λ (j : ℕ). refusal j ≡ 0) (sym e) here
       by_place (no ne) = below i (omega arith)
 
-  module _ (begins : sizeRefusal file ≡ 0) where
+  module _ (begins : size_refusal file ≡ 0) where
     -- the slices counted from where the check stands
-    counted : (left : ℕ) {from s at : ℕ} → sliceCount file - s ≡ left → Stands file from s at → Passed file s → Passed file (passedFrom from file)
-    counted zero e here p = subst (Passed file) (slices-end file here (omega arith)).1 p
-    counted (suc left) {from} {s} {at} e here p = by-refusal (counted left (omega arith)) (ℕ_discrete (refusal s) 0)
+    counted : (left : ℕ) {from s at : ℕ} → slice_count file - s ≡ left → Stands file from s at → Passed file s → Passed file (passed_from from file)
+    counted zero e here p = subst (Passed file) (slices_end file here (omega arith)).1 p
+    counted (suc left) {from} {s} {at} e here p = by_refusal (counted left (omega arith)) (ℕ_discrete (refusal s) 0)
       where
-        same : refusal s ≡ sliceRefusal (sliceCount file) (inputCount file) s (drop at file)
+        same : refusal s ≡ slice_refusal (slice_count file) (input_count file) s (drop at file)
         same = rw here.place
 
-        by-refusal : (Stands file from (s + 1) (at + recordLength sliceTag) → Passed file (s + 1) → Passed file (passedFrom from file)) → Dec (refusal s ≡ 0) → Passed file (passedFrom from file)
-        by-refusal on (yes z) =
-            on (slice-good file here (omega arith) same z) record { begins = λ l. begins; within = omega arith; good = one_more p.good z }
-        by-refusal on (no ne) = subst (Passed file) (slice-bad file here (omega arith) same ne).1 p
+        by_refusal : (Stands file from (s + 1) (at + record_length slice_tag) → Passed file (s + 1) → Passed file (passed_from from file)) → Dec (refusal s ≡ 0) → Passed file (passed_from from file)
+        by_refusal on (yes z) =
+            on (slice_good file here (omega arith) same z) record { begins = λ l. begins; within = omega arith; good = one_more p.good z }
+        by_refusal on (no ne) = subst (Passed file) (slice_bad file here (omega arith) same ne).1 p
 
   -- the slices that a check counts have passed
-  pub passed_on : {count : ℕ} → Passed file count → Passed file (passedFrom count file)
-  passed_on {count} p = by_size (ℕ_discrete (sizeRefusal file) 0)
+  pub passed_on : {count : ℕ} → Passed file count → Passed file (passed_from count file)
+  passed_on {count} p = by_size (ℕ_discrete (size_refusal file) 0)
     where
-      by_size : Dec (sizeRefusal file ≡ 0) → Passed file (passedFrom count file)
-      by_size (yes z) = counted z _ refl (taken-up file z count (after-good file z count p.within p.good).inside) p
-      by_size (no ne) = subst (Passed file) (size-bad file count refl ne).1 p
+      by_size : Dec (size_refusal file ≡ 0) → Passed file (passed_from count file)
+      by_size (yes z) = counted z _ refl (taken_up file z count (after_good file z count p.within p.good).inside) p
+      by_size (no ne) = subst (Passed file) (size_bad file count refl ne).1 p
 
   -- and stay so, whatever follows
-  pub passed-stay : (x : List ℕ) {count : ℕ} → Passed file count → Passed (file ++ x) count
-  passed-stay x {count = zero} p = none_passed (file ++ x)
-  passed-stay x {count = suc s} p =
+  pub passed_stay : (x : List ℕ) {count : ℕ} → Passed file count → Passed (file ++ x) count
+  passed_stay x {count = zero} p = none_passed (file ++ x)
+  passed_stay x {count = suc s} p =
       let begins = p.begins (omega arith) in
       record {
-        begins = λ l. size-stays file x (λ o. omega (arith, begins)) ∙ begins;
-        within = rw (count-stays file x begins) p.within;
+        begins = λ l. size_stays file x (λ o. omega (arith, begins)) ∙ begins;
+        within = rw (count_stays file x begins) p.within;
         good = λ i l.
             let z = p.good i l in
-            let whole = slice-whole _ _ i (drop (recordStart file i) file) z in
-            rw (count-stays file x begins, inputs-stay file x begins, start-stays file x i, drop-append-le (recordStart file i) file x (omega (arith, whole, length-drop (recordStart file i) file)))
-            (slice-stays _ _ i (drop (recordStart file i) file) x (λ o. omega (arith, z)) ∙ z);
+            let whole = slice_whole _ _ i (drop (record_start file i) file) z in
+            rw (count_stays file x begins, inputs_stay file x begins, start_stays file x i, drop-append-le (record_start file i) file x (omega (arith, whole, length-drop (record_start file i) file)))
+            (slice_stays _ _ i (drop (record_start file i) file) x (λ o. omega (arith, z)) ∙ z);
       }

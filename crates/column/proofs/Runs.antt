@@ -19,13 +19,13 @@ unfoldable placed : {A : Type 0} → (ℕ → A) → ℕ → A → ℕ → A
 placed f k a i = cond (eqb i k) a (f i)
 
 module _ {A : Type 0} (f : ℕ → A) (k : ℕ) (a : A) where
-  placed-there : placed f k a k ≡ a
+  placed_there : placed f k a k ≡ a
   unfolding placed
-  placed-there = rw (eq-eqb k k refl)
+  placed_there = rw (eq-eqb k k refl)
 
-  placed-other : (i : ℕ) → (i ≡ k → ⊥) → placed f k a i ≡ f i
+  placed_other : (i : ℕ) → (i ≡ k → ⊥) → placed f k a i ≡ f i
   unfolding placed
-  placed-other i ne = rw (ne_eqb i k ne)
+  placed_other i ne = rw (ne_eqb i k ne)
 
 -- each state of the file settles to at most one table
 abbrev pub SettlesOnce : List ℕ → Type 0
@@ -43,59 +43,59 @@ module _ (file : List ℕ) where
     settled_at zero l = s
     settled_at (suc k) l = r.settled k (omega arith)
 
-    pub moves-at : (k : ℕ) → k < suc K → prepend start r.states (suc k) ≡ clocked file (prepend start r.states k) (inputs k) (prepend values r.tables k)
-    moves-at zero l = r.begins
-    moves-at (suc k) l = r.moves k (omega arith)
+    pub moves_at : (k : ℕ) → k < suc K → prepend start r.states (suc k) ≡ clocked file (prepend start r.states k) (inputs k) (prepend values r.tables k)
+    moves_at zero l = r.begins
+    moves_at (suc k) l = r.moves k (omega arith)
 
-    unfoldable pub clock-first : Run file start inputs (suc K)
-    clock-first = record { states = prepend start r.states; tables = prepend values r.tables; begins = refl; settled = settled_at; moves = moves-at }
+    unfoldable pub clock_first : Run file start inputs (suc K)
+    clock_first = record { states = prepend start r.states; tables = prepend values r.tables; begins = refl; settled = settled_at; moves = moves_at }
 
   -- a run, and then one clock
   module _ {start : State} {inputs : ℕ → List ℕ} {K : ℕ} (r : Run file start inputs K) (values : List ℕ) (s : SettledFor file (r.states K) (inputs K) values) where
     abbrev moved : State
     moved = clocked file (r.states K) (inputs K) values
 
-    abbrev states-on : ℕ → State
-    states-on = placed r.states (suc K) moved
+    abbrev states_on : ℕ → State
+    states_on = placed r.states (suc K) moved
 
-    abbrev tables-on : ℕ → List ℕ
-    tables-on = placed r.tables K values
+    abbrev tables_on : ℕ → List ℕ
+    tables_on = placed r.tables K values
 
-    state-kept : (k : ℕ) → k ≤ K → states-on k ≡ r.states k
-    state-kept k l = placed-other r.states (suc K) moved k (λ e. omega arith)
+    state_kept : (k : ℕ) → k ≤ K → states_on k ≡ r.states k
+    state_kept k l = placed_other r.states (suc K) moved k (λ e. omega arith)
 
-    settled_on : (k : ℕ) → k < suc K → Dec (k ≡ K) → SettledFor file (states-on k) (inputs k) (tables-on k)
-    settled_on k l (yes e) = rw (state-kept k (omega arith), e, placed-there r.tables K values) s
-    settled_on k l (no ne) = rw (state-kept k (omega arith), placed-other r.tables K values k ne) (r.settled k (omega arith))
+    settled_on : (k : ℕ) → k < suc K → Dec (k ≡ K) → SettledFor file (states_on k) (inputs k) (tables_on k)
+    settled_on k l (yes e) = rw (state_kept k (omega arith), e, placed_there r.tables K values) s
+    settled_on k l (no ne) = rw (state_kept k (omega arith), placed_other r.tables K values k ne) (r.settled k (omega arith))
 
-    moves-on : (k : ℕ) → k < suc K → Dec (k ≡ K) → states-on (suc k) ≡ clocked file (states-on k) (inputs k) (tables-on k)
-    moves-on k l (yes e) = rw (state-kept k (omega arith), e, placed-there r.states (suc K) moved, placed-there r.tables K values)
-    moves-on k l (no ne) = rw (state-kept k (omega arith), state-kept (suc k) (omega arith), placed-other r.tables K values k ne) (r.moves k (omega arith))
+    moves_on : (k : ℕ) → k < suc K → Dec (k ≡ K) → states_on (suc k) ≡ clocked file (states_on k) (inputs k) (tables_on k)
+    moves_on k l (yes e) = rw (state_kept k (omega arith), e, placed_there r.states (suc K) moved, placed_there r.tables K values)
+    moves_on k l (no ne) = rw (state_kept k (omega arith), state_kept (suc k) (omega arith), placed_other r.tables K values k ne) (r.moves k (omega arith))
 
-    pub clock-last : Run file start inputs (suc K)
-    clock-last =
+    pub clock_last : Run file start inputs (suc K)
+    clock_last =
         record {
-          states = states-on;
-          tables = tables-on;
-          begins = state-kept 0 (omega arith) ∙ r.begins;
+          states = states_on;
+          tables = tables_on;
+          begins = state_kept 0 (omega arith) ∙ r.begins;
           settled = λ k l. settled_on k l (ℕ_discrete k K);
-          moves = λ k l. moves-on k l (ℕ_discrete k K);
+          moves = λ k l. moves_on k l (ℕ_discrete k K);
         }
 
     -- its last state and table
-    pub last-state : clock-last.states (suc K) ≡ moved
-    unfolding clock-last
-    last-state = placed-there r.states (suc K) moved
+    pub last_state : clock_last.states (suc K) ≡ moved
+    unfolding clock_last
+    last_state = placed_there r.states (suc K) moved
 
-    pub last-table : clock-last.tables K ≡ values
-    unfolding clock-last
-    last-table = placed-there r.tables K values
+    pub last_table_lem : clock_last.tables K ≡ values
+    unfolding clock_last
+    last_table_lem = placed_there r.tables K values
 
   -- two runs of as many clocks agree
-  pub run-unique : SettlesOnce file → {start : State} {inputs : ℕ → List ℕ} {K : ℕ} (r r' : Run file start inputs K) (k : ℕ) → k ≤ K → r.states k ≡ r'.states k
-  run-unique once r r' zero l = r.begins ∙ sym r'.begins
-  run-unique once {start} {inputs} r r' (suc k) l =
-      let here = run-unique once r r' k (omega arith) in
+  pub run_unique : SettlesOnce file → {start : State} {inputs : ℕ → List ℕ} {K : ℕ} (r r' : Run file start inputs K) (k : ℕ) → k ≤ K → r.states k ≡ r'.states k
+  run_unique once r r' zero l = r.begins ∙ sym r'.begins
+  run_unique once {start} {inputs} r r' (suc k) l =
+      let here = run_unique once r r' k (omega arith) in
       let s : SettledFor file (r'.states k) (inputs k) (r.tables k) = subst (λ (q : State). SettledFor file q (inputs k) (r.tables k)) here (r.settled k (omega arith)) in
       let t : r.tables k ≡ r'.tables k = once (r'.states k) (inputs k) (r.tables k) (r'.tables k) s (r'.settled k (omega arith)) in
       r.moves k (omega arith) ∙ ap (λ (q : State). clocked file q (inputs k) (r.tables k)) here ∙ ap (λ (u : List ℕ). clocked file (r'.states k) (inputs k) u) t ∙ sym (r'.moves k (omega arith))

@@ -4,7 +4,7 @@ use Rattle.std.proofs.lemmas.List.Edits.{sets}
 use Rattle.netlist.specs.Rule.{bit}
 use Rattle.column.specs.Judge.{Judged}
 use Rattle.slicefile.specs.Lists.{tabulate}
-use Rattle.column.specs.Clock.{powerUp, SettledFor, Run}
+use Rattle.column.specs.Clock.{power_up, SettledFor, Run}
 use Rattle.column.specs.declared.Verdict.{Verdict}
 use Rattle.column.specs.declared.Verdict.TheVariants.{Refused, Accepted}
 
@@ -18,8 +18,8 @@ abbrev pub edited : List Edit → List ℕ
 edited [] = replicate 124 0
 edited (e ∷ es) = sets (edited es) e.at e.bytes
 
-unfoldable pub fileOf : List Edit → List ℕ
-fileOf es = 1 ∷ 2 ∷ 0 ∷ 1 ∷ 0 ∷ 2 ∷ 0x7C ∷ 0 ∷ (edited es ++ (3 ∷ 0 ∷ 0 ∷ []))
+unfoldable pub file_of : List Edit → List ℕ
+file_of es = 1 ∷ 2 ∷ 0 ∷ 1 ∷ 0 ∷ 2 ∷ 0x7C ∷ 0 ∷ (edited es ++ (3 ∷ 0 ∷ 0 ∷ []))
 
 -- the edits that the cases name, by the layout's own offsets and not by the definitions of the format, so that they test those
 abbrev pub at : ℕ → List ℕ → Edit
@@ -29,23 +29,23 @@ abbrev pub slicem : Edit
 slicem = at 1 (1 ∷ [])
 
 -- byte 5 is the mode of D, byte 10 the lowest of contents A, bytes 10-41 all contents, byte 46 the carry start
-abbrev pub carryOne : Edit
-carryOne = at 46 (1 ∷ [])
+abbrev pub carry_one : Edit
+carry_one = at 46 (1 ∷ [])
 
-abbrev pub allOnes : Edit
-allOnes = at 10 (replicate 32 255)
+abbrev pub all_ones : Edit
+all_ones = at 10 (replicate 32 255)
 
 -- pins by the offset of their two bytes: A1 is at 62, A6 at 72, D1-D6 at 98-108, DX at 116, WE at 122
 abbrev pub drive : ℕ → ℕ → Edit
 drive i code = at i (code % 256 ∷ code / 256 ∷ [])
 
 -- case 9: SLICEM, D shift, DX and WE at 1
-abbrev pub shiftD : List Edit
-shiftD = slicem ∷ at 5 (2 ∷ []) ∷ drive 116 1 ∷ drive 122 1 ∷ []
+abbrev pub shift_d : List Edit
+shift_d = slicem ∷ at 5 (2 ∷ []) ∷ drive 116 1 ∷ drive 122 1 ∷ []
 
 -- case 10: SLICEM, D memory, D1-D6, DX and WE at 1
-abbrev pub memoryD : List Edit
-memoryD =
+abbrev pub memory_d : List Edit
+memory_d =
     slicem ∷ at 5 (1 ∷ []) ∷ drive 98 1 ∷ drive 100 1 ∷ drive 102 1 ∷ drive 104 1 ∷ drive 106 1 ∷ drive 108 1 ∷ drive 116 1 ∷ drive 122 1 ∷ []
 
 abbrev pub up_from : ℕ → ℕ → List ℕ
@@ -68,27 +68,27 @@ names [] x = false
 names (y ∷ ys) x = eqb x y || names ys x
 
 -- the value table in which just the named signals are 1
-abbrev pub onesAt : List ℕ → List ℕ
-onesAt xs = tabulate 0 32 (λ x. bit (names xs x))
+abbrev pub ones_at : List ℕ → List ℕ
+ones_at xs = tabulate 0 32 (λ x. bit (names xs x))
 
 -- no case has outside inputs
-abbrev pub noInputs : ℕ → List ℕ
-noInputs k = []
+abbrev pub no_inputs : ℕ → List ℕ
+no_inputs k = []
 
 -- there is a run of k clocks from power-up, and every such run leaves the word w in table t
 pub record LeavesWord (file : List ℕ) (k t w : ℕ) : Type 0 where
-  pub runs : Run file (powerUp file) noInputs k
-  pub always : (r : Run file (powerUp file) noInputs k) → get_or (r.states k).contents t 0 ≡ w
+  pub runs : Run file (power_up file) no_inputs k
+  pub always : (r : Run file (power_up file) no_inputs k) → get_or (r.states k).contents t 0 ≡ w
 
 unfoldable pub Gives : List ℕ → Outcome → Type 0
 Gives file Judgement = Unit {0}
-Gives file (Ones xs) = SettledFor file (powerUp file) [] (onesAt xs)
+Gives file (Ones xs) = SettledFor file (power_up file) [] (ones_at xs)
 Gives file (After k t w) = LeavesWord file k t w
 
 -- what a row says
 pub record Holds (r : Row) : Type 0 where
-  pub judged : Judged (fileOf r.edits) r.verdict
-  pub gives : Gives (fileOf r.edits) r.outcome
+  pub judged : Judged (file_of r.edits) r.verdict
+  pub gives : Gives (file_of r.edits) r.outcome
 
 -- every row of a list holds: the cases' one statement is `Every cases`
 abbrev pub Every : List Row → Type 0
@@ -106,9 +106,9 @@ cases =
     -- 2
     ∷ row (at 10 (1 ∷ []) ∷ []) (Accepted 1 0) (Ones (0 ∷ 4 ∷ 12 ∷ 20 ∷ []))
     -- 3
-    ∷ row (carryOne ∷ []) (Accepted 1 0) (Ones (12 ∷ []))
+    ∷ row (carry_one ∷ []) (Accepted 1 0) (Ones (12 ∷ []))
     -- 4
-    ∷ row (carryOne ∷ allOnes ∷ []) (Accepted 1 0) (Ones (up_from 0 12 ++ up_from 16 3 ++ up_from 20 4))
+    ∷ row (carry_one ∷ all_ones ∷ []) (Accepted 1 0) (Ones (up_from 0 12 ++ up_from 16 3 ++ up_from 20 4))
     -- 5
     ∷ row (drive 62 4096 ∷ []) (Refused 9 0) Judgement
     -- 6
@@ -122,8 +122,8 @@ cases =
     ∷ row (drive 62 4108 ∷ []) (Refused 7 5) Judgement
     ∷ row (drive 62 4112 ∷ []) (Refused 7 5) Judgement
     -- 9
-    ∷ row shiftD (Accepted 1 0) (After 1 3 1)
-    ∷ row shiftD (Accepted 1 0) (After 32 3 4_294_967_295)
+    ∷ row shift_d (Accepted 1 0) (After 1 3 1)
+    ∷ row shift_d (Accepted 1 0) (After 32 3 4_294_967_295)
     -- 10
-    ∷ row memoryD (Accepted 1 0) (After 1 3 9_223_372_036_854_775_808)
+    ∷ row memory_d (Accepted 1 0) (After 1 3 9_223_372_036_854_775_808)
     ∷ []

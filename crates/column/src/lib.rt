@@ -1,12 +1,12 @@
 // A whole slice file: its records checked, its netlist, and the judge.
 ghost use Rattle.std.specs.Prelude.{◌≡◌, ◌+◌, ◌*◌, ◌≤◌, ◌<◌, ◌^◌, length};
 ghost use Rattle.lent.specs.Lent.{was, left};
-ghost use Rattle.column.specs.File.{sliceBody};
-ghost use Rattle.slicefile.specs.Format.{sliceLimit};
-ghost use Rattle.column.specs.Check.{checkEnd, checkFile, checkFrom, passedFrom, IsSound};
+ghost use Rattle.column.specs.File.{slice_body};
+ghost use Rattle.slicefile.specs.Format.{slice_limit};
+ghost use Rattle.column.specs.Check.{check_end, check_file, check_from, passed_from, IsSound};
 ghost use Rattle.column.specs.Judge.{Judged};
-ghost use Rattle.netlist.specs.Table.{sliceSignals, signalLimit, signalCount, tableLength};
-ghost use Rattle.column.specs.Compile.{tableLimit, LoweredTo, Lowered, Compiled, Loaded};
+ghost use Rattle.netlist.specs.Table.{slice_signals, signal_limit, signal_count, table_length};
+ghost use Rattle.column.specs.Compile.{table_limit, LoweredTo, Lowered, Compiled, Loaded};
 
 use netlist::{SIGNAL_LIMIT, SLICE_NUMBERS, SLICE_SIGNALS};
 use slicefile::{
@@ -54,7 +54,7 @@ fn stopped(number: usize, place: usize, passed: usize) -> Progress
 // The end record at a place of the file, and that nothing follows it.
 fn check_end(n: usize, m: usize, place: usize, s: &[u8]) -> Checked
     requires { place < 2 ^ 32 }
-    ensures { result ≡ checkEnd n m place (was s) }
+    ensures { result ≡ check_end n m place (was s) }
 {
     if framing::is_end(s) {
         if HEAD < s.len() {
@@ -71,8 +71,8 @@ fn check_end(n: usize, m: usize, place: usize, s: &[u8]) -> Checked
 
 // Rules 1 to 8 on a whole file, of which some slices passed before.
 pub fn check_from(file: &[u8], passed: usize) -> Progress
-    requires { passed ≤ sliceLimit }
-    ensures { (result.checked ≡ checkFrom passed (was file)) × (result.passed ≡ passedFrom passed (was file)) }
+    requires { passed ≤ slice_limit }
+    ensures { (result.checked ≡ check_from passed (was file)) × (result.passed ≡ passed_from passed (was file)) }
 {
     let h = framing::size_refusal(file);
     if h != 0 {
@@ -99,7 +99,7 @@ pub fn check_from(file: &[u8], passed: usize) -> Progress
 
 // Rules 1 to 8 on a whole file.
 pub fn check_file(file: &[u8]) -> Checked
-    ensures { result ≡ checkFile (was file) }
+    ensures { result ≡ check_file (was file) }
 {
     let progress = check_from(file, 0);
     progress.checked
@@ -108,7 +108,7 @@ pub fn check_file(file: &[u8]) -> Checked
 // The body of slice s of a sound file.
 pub fn slice_body(file: &[u8], n: usize, m: usize, s: usize) -> &[u8]
     requires { IsSound file.now n m × (s < n) }
-    ensures { result.now ≡ sliceBody (was file) s }
+    ensures { result.now ≡ slice_body (was file) s }
 {
     let at = SIZE_RECORD + SLICE_RECORD * s + HEAD;
     &file[at..at + SLICE_BODY]
@@ -116,9 +116,9 @@ pub fn slice_body(file: &[u8], n: usize, m: usize, s: usize) -> &[u8]
 
 // Puts the rows of slice s of a sound file into the gate table, after those of the slices before it.
 fn lower_slice(file: &[u8], n: usize, m: usize, s: usize, table: &mut [u16])
-    requires sound { IsSound file.now n m × (s < n) × (length table.old ≡ tableLength n) }
-    requires lowered_to { LoweredTo file.now n table.old (sliceSignals * s) }
-    ensures { LoweredTo (was file) n (left table) (sliceSignals * s + sliceSignals) }
+    requires sound { IsSound file.now n m × (s < n) × (length table.old ≡ table_length n) }
+    requires lowered_to { LoweredTo file.now n table.old (slice_signals * s) }
+    ensures { LoweredTo (was file) n (left table) (slice_signals * s + slice_signals) }
 {
     let body = slice_body(file, n, m, s);
     let pins = sources::pin_numbers(n, m, body);
@@ -132,7 +132,7 @@ fn lower_slice(file: &[u8], n: usize, m: usize, s: usize, table: &mut [u16])
 
 // Puts the netlist of a sound file into the gate table.
 fn lower(file: &[u8], n: usize, m: usize, table: &mut [u16])
-    requires { IsSound file.now n m × (length table.old ≡ tableLength n) }
+    requires { IsSound file.now n m × (length table.old ≡ table_length n) }
     ensures { Lowered (was file) n (left table) }
 {
     let mut s: usize = 0;
@@ -145,7 +145,7 @@ fn lower(file: &[u8], n: usize, m: usize, table: &mut [u16])
 // Lowers a sound file and puts its signals in order, or finds the smallest one on a loop.
 fn compile(file: &[u8], n: usize, m: usize, table: &mut [u16], order: &mut [u16]) -> Sorted
     requires sound { IsSound file.now n m }
-    requires table_len { (length table.old ≡ tableLength n) × (length order.old ≡ signalCount n) }
+    requires table_len { (length table.old ≡ table_length n) × (length order.old ≡ signal_count n) }
     ensures { Compiled (was file) n (left table) (left order) result }
 {
     lower(file, n, m, table);
@@ -155,7 +155,7 @@ fn compile(file: &[u8], n: usize, m: usize, table: &mut [u16], order: &mut [u16]
 // The verdict on a file whose records are sound, its netlist at the front of the table and an order of its signals at the front of the other.
 fn load_sound(file: &[u8], n: usize, m: usize, table: &mut [u16], order: &mut [u16]) -> Verdict
     requires sound { IsSound file.now n m }
-    requires table_len { (length table.old ≡ tableLimit) × (length order.old ≡ signalLimit) }
+    requires table_len { (length table.old ≡ table_limit) × (length order.old ≡ signal_limit) }
     ensures { Loaded (was file) (left table) (left order) result }
 {
     let numbers = SLICE_NUMBERS * n;
@@ -168,7 +168,7 @@ fn load_sound(file: &[u8], n: usize, m: usize, table: &mut [u16], order: &mut [u
 
 // Judges any bytes, and leaves what the calls on an accepted file run on: its netlist in the gate table, and an order.
 pub fn load(file: &[u8], table: &mut [u16], order: &mut [u16]) -> Verdict
-    requires { (length table.old ≡ tableLimit) × (length order.old ≡ signalLimit) }
+    requires { (length table.old ≡ table_limit) × (length order.old ≡ signal_limit) }
     ensures { Loaded (was file) (left table) (left order) result }
 {
     match check_file(file) {

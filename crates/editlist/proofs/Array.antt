@@ -27,14 +27,14 @@ words n = ty_array (ty_int w64) n
 module _ {M : Type 1} {𝓤 : Ura M} (𝓛 : Logic 𝓤) (n b : ℕ) (xs : List ℕ) where
   open 𝓛 use {H}
 
-  pub words-apart : (v : Val) → ent 𝓤 (sep 𝓤 (H.at full_share (words n) b 0 v) (sem 𝓛 ((Array u64 n).own_val xs (v ∷ [])))) (sem 𝓛 (cells (mem u64) xs b 0))
-  words-apart v =
+  pub words_apart : (v : Val) → ent 𝓤 (sep 𝓤 (H.at full_share (words n) b 0 v) (sem 𝓛 ((Array u64 n).own_val xs (v ∷ [])))) (sem 𝓛 (cells (mem u64) xs b 0))
+  words_apart v =
       qed 𝓛 (‵ (fat full_share (words n) b 0 v) ∷ ‵ ((Array u64 n).own_val xs (v ∷ [])) ∷ []) ∵
       use2 𝓛 (‵ (part_at (Array u64 n) full_share xs b 0)) (part_in 𝓛 (Array u64 n) refl full_share xs b 0 v) $
       use1 𝓛 (‵ ((arr_parts (shares u64) n).part full_share xs b 0)) (Array-apart 𝓛 u64 full_share tt n xs b 0) $ fsplit ! $ drop ! $
       use1 𝓛 (‵ (cells (mem u64) xs b 0)) (whole_in 𝓛 u64 xs b 0) $ done !
 
-  pub words-whole : length xs ≡ n → ent 𝓤 (sem 𝓛 (cells (mem u64) xs b 0)) (ex 𝓤 (λ (v : Val). sep 𝓤 (H.at full_share (words n) b 0 v) (sem 𝓛 ((Array u64 n).own_val xs (v ∷ [])))))
-  words-whole long =
+  pub words_whole : length xs ≡ n → ent 𝓤 (sem 𝓛 (cells (mem u64) xs b 0)) (ex 𝓤 (λ (v : Val). sep 𝓤 (H.at full_share (words n) b 0 v) (sem 𝓛 ((Array u64 n).own_val xs (v ∷ [])))))
+  words_whole long =
       qed 𝓛 (‵ (cells (mem u64) xs b 0) ∷ []) ∵ use1 𝓛 (‵ (row u64 full_share xs b 0)) (whole_out 𝓛 u64 xs b 0) $ feq_i ! ℕ (length xs) n long $ fjoin ! $
       use1 𝓛 (‵ (part_at (Array u64 n) full_share xs b 0)) (Array-whole 𝓛 u64 full_share n xs b 0) $ by ! (part_out 𝓛 (Array u64 n) refl full_share xs b 0)

@@ -2,15 +2,15 @@
 use Rattle.std.specs.Prelude.{ℕ, zero, suc, ◌+◌, ◌*◌, ◌<◌, ◌≡◌, cond, List, [], ◌∷◌, ltb, get_or, set}
 use Rattle.editlist.specs.declared.Edit.{Edit}
 
-abbrev pub editLimit : ℕ
-editLimit = 256
+abbrev pub edit_limit : ℕ
+edit_limit = 256
 
 -- the words of an edit: its kind, its number, its value
-abbrev pub editWords : ℕ
-editWords = 3
+abbrev pub edit_words : ℕ
+edit_words = 3
 
-abbrev pub listLength : ℕ
-listLength = editWords * editLimit
+abbrev pub list_length : ℕ
+list_length = edit_words * edit_limit
 
 abbrev pub edit : ℕ → ℕ → ℕ → Edit
 edit kind number value = record { kind = kind; number = number; value = value }
@@ -20,24 +20,24 @@ abbrev pub none : Edit
 none = edit 0 0 0
 
 -- edit i of the words, and the words with edit i put into them
-abbrev pub editAt : List ℕ → ℕ → Edit
-editAt words i = edit (get_or words (editWords * i) 0) (get_or words (editWords * i + 1) 0) (get_or words (editWords * i + 2) 0)
+abbrev pub edit_at : List ℕ → ℕ → Edit
+edit_at words i = edit (get_or words (edit_words * i) 0) (get_or words (edit_words * i + 1) 0) (get_or words (edit_words * i + 2) 0)
 
-abbrev pub withEdit : List ℕ → ℕ → Edit → List ℕ
-withEdit words i e = set (set (set words (editWords * i) e.kind) (editWords * i + 1) e.number) (editWords * i + 2) e.value
+abbrev pub with_edit : List ℕ → ℕ → Edit → List ℕ
+with_edit words i e = set (set (set words (edit_words * i) e.kind) (edit_words * i + 1) e.number) (edit_words * i + 2) e.value
 
 -- the k edits of the words from edit i on
-abbrev pub editsFrom : List ℕ → ℕ → ℕ → List Edit
-editsFrom words i zero = []
-editsFrom words i (suc k) = editAt words i ∷ editsFrom words (suc i) k
+abbrev pub edits_from : List ℕ → ℕ → ℕ → List Edit
+edits_from words i zero = []
+edits_from words i (suc k) = edit_at words i ∷ edits_from words (suc i) k
 
-abbrev pub editsIn : List ℕ → ℕ → List Edit
-editsIn words count = editsFrom words 0 count
+abbrev pub edits_in : List ℕ → ℕ → List Edit
+edits_in words count = edits_from words 0 count
 
 -- a list that is too long is not taken apart
-abbrev pub listedCount : ℕ → ℕ
-listedCount len = cond (ltb editLimit len) 0 len
+abbrev pub listed_count : ℕ → ℕ
+listed_count len = cond (ltb edit_limit len) 0 len
 
 -- the words hold the first k of the edits
 abbrev pub Listed : List Edit → ℕ → List ℕ → Type 0
-Listed es k words = (i : ℕ) → i < k → editAt words i ≡ get_or es i none
+Listed es k words = (i : ℕ) → i < k → edit_at words i ≡ get_or es i none

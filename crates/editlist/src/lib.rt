@@ -1,7 +1,7 @@
 // A lent list of edits, taken apart into words.
 ghost use Rattle.std.specs.Prelude.{◌≡◌, ◌<◌, length, get_or};
 ghost use Rattle.lent.specs.Lent.{was, left};
-ghost use Rattle.editlist.specs.Listed.{editLimit, listLength, none, withEdit, listedCount, Listed};
+ghost use Rattle.editlist.specs.Listed.{edit_limit, list_length, none, with_edit, listed_count, Listed};
 
 // The most edits of a list.
 pub const EDIT_LIMIT: usize = 256;
@@ -23,15 +23,15 @@ pub struct Edit {
 
 // How many edits of a list are taken apart: none of one that is too long, since it is refused for that.
 fn listed_count(len: usize) -> usize
-    ensures { result ≡ listedCount len }
+    ensures { result ≡ listed_count len }
 {
     if EDIT_LIMIT < len { 0 } else { len }
 }
 
 // Puts edit i into the words.
 fn put_edit(words: &mut [u64], i: usize, edit: Edit)
-    requires { (i < editLimit) × (length words.old ≡ listLength) }
-    ensures { left words ≡ withEdit (was words) i edit }
+    requires { (i < edit_limit) × (length words.old ≡ list_length) }
+    ensures { left words ≡ with_edit (was words) i edit }
 {
     let at = EDIT_WORDS * i;
     words[at] = edit.kind as u64;
@@ -53,7 +53,7 @@ fn edit_at(edits: &[Edit], i: usize) -> Edit
 
 // The words of a list of edits.
 pub fn list_edits(edits: &[Edit]) -> [u64; LIST_WORDS]
-    ensures { Listed (was edits) (listedCount (length (was edits))) result }
+    ensures { Listed (was edits) (listed_count (length (was edits))) result }
 {
     let end = listed_count(edits.len());
     let mut words = [0u64; LIST_WORDS];

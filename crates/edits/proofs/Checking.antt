@@ -1,17 +1,17 @@
 -- Whether one of the edits in words is bad, found one after another. Assumes nothing.
 use mathlib.Core.Path.{◌≡◌, sym, ◌∙◌}
-use mathlib.Core.Bool.{Bool, ◌||◌, or_assoc, or-false}
+use mathlib.Core.Bool.{Bool, ◌||◌, or_assoc, or_false}
 use mathlib.Core.List.{List}
 use Prim.Native.Nat.{ℕ, ◌+◌, ◌-◌, ◌≤◌, ◌<◌}
-use Rattle.editlist.specs.Listed.{editAt, editsFrom}
-use Rattle.editlist.proofs.Listing.{edits-next, edits-end}
-use Rattle.edits.specs.Edits.{badEdit, anyBad}
+use Rattle.editlist.specs.Listed.{edit_at, edits_from}
+use Rattle.editlist.proofs.Listing.{edits_next, edits_end}
+use Rattle.edits.specs.Edits.{bad_edit, any_bad}
 
-module _ (bad : ℕ → ℕ → Bool) (m : ℕ) (words : List ℕ) (i count : ℕ) (found : Bool) {all : Bool} (left : (found || anyBad bad m (editsFrom words i (count - i))) ≡ all) where
+module _ (bad : ℕ → ℕ → Bool) (m : ℕ) (words : List ℕ) (i count : ℕ) (found : Bool) {all : Bool} (left : (found || any_bad bad m (edits_from words i (count - i))) ≡ all) where
   -- the next one
-  pub bad-next : {b : Bool} → i < count → b ≡ badEdit bad m (editAt words i) → ((found || b) || anyBad bad m (editsFrom words (i + 1) (count - (i + 1)))) ≡ all
-  bad-next {b} h e = or_assoc found b _ ∙ (rw (edits-next words _ _ h, ← e) at left)
+  pub bad_next : {b : Bool} → i < count → b ≡ bad_edit bad m (edit_at words i) → ((found || b) || any_bad bad m (edits_from words (i + 1) (count - (i + 1)))) ≡ all
+  bad_next {b} h e = or_assoc found b _ ∙ (rw (edits_next words _ _ h, ← e) at left)
 
   -- none is left
-  pub bad-end : count ≤ i → found ≡ all
-  bad-end h = sym (or-false found) ∙ (rw (edits-end words _ _ h) at left)
+  pub bad_end : count ≤ i → found ≡ all
+  bad_end h = sym (or_false found) ∙ (rw (edits_end words _ _ h) at left)

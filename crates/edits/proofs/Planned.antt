@@ -6,23 +6,23 @@ use Prim.Native.Nat.{ℕ}
 use Rattle.netlist.specs.Rule.{Env}
 use Rattle.slicefile.specs.declared.Answer.{Answer}
 use Rattle.editlist.specs.declared.Edit.{Edit}
-use Rattle.plan.specs.Plan.{planEdges, Ready}
-use Rattle.buffers.specs.Buffers.{editRefusal, badTable, badTableBy}
-use Rattle.buffers.proofs.Modes.{edit-same, table_same}
-use Rattle.calls.proofs.Calls.{planned-called}
-use Rattle.edits.specs.Edits.{badEdits, changesOf, stateIn, editsRefusal, EditsMade, EditsPlanned}
-use Rattle.edits.proofs.Marks.{edited-file}
+use Rattle.plan.specs.Plan.{plan_edges, Ready}
+use Rattle.buffers.specs.Buffers.{edit_refusal, bad_table, bad_table_by}
+use Rattle.buffers.proofs.Modes.{edit_same, table_same}
+use Rattle.calls.proofs.Calls.{planned_called}
+use Rattle.edits.specs.Edits.{bad_edits, changes_of, state_in, edits_refusal, EditsMade, EditsPlanned}
+use Rattle.edits.proofs.Marks.{edited_file}
 
 module _ (file : List ℕ) {n m : ℕ} {plan : List ℕ} (r : Ready file n m plan) where
   -- the plan finds the same edits bad
-  edits-same : (es : List Edit) → badEdits (badTableBy (planEdges plan n) n) m es ≡ badEdits (badTable file n) m es
-  edits-same es = ap (λ (bad : ℕ → ℕ → Bool). badEdits bad m es) (fun_ext (λ t. fun_ext (λ w. table_same file r t w)))
+  edits_same : (es : List Edit) → bad_edits (bad_table_by (plan_edges plan n) n) m es ≡ bad_edits (bad_table file n) m es
+  edits_same es = ap (λ (bad : ℕ → ℕ → Bool). bad_edits bad m es) (fun_ext (λ t. fun_ext (λ w. table_same file r t w)))
 
-  pub edits-file :
+  pub edits_file :
       (before after : Env) (es : List Edit) (old new : List ℕ) {a : Answer} → EditsPlanned plan n m before after es old new a
       → EditsMade file before after es old new a
-  edits-file before after es old new p =
-      planned-called file (editsRefusal file before es old) r.verdict
-      (edit-same file r (stateIn before) before.inputs old _
-      ∙ ap (λ (bad : Bool). editRefusal bad file (stateIn before) before.inputs old n m) (edits-same es))
-      (λ d. (d.0, edited-file file r (changesOf es) d.1)) p
+  edits_file before after es old new p =
+      planned_called file (edits_refusal file before es old) r.verdict
+      (edit_same file r (state_in before) before.inputs old _
+      ∙ ap (λ (bad : Bool). edit_refusal bad file (state_in before) before.inputs old n m) (edits_same es))
+      (λ d. (d.0, edited_file file r (changes_of es) d.1)) p

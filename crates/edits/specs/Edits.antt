@@ -4,85 +4,85 @@ use Rattle.std.specs.Prelude.{ℕ, ◌≡◌, Bool, false, ◌||◌, cond, List,
 use Rattle.lent.specs.Lent.{Lent, was, left}
 use Rattle.netlist.specs.Rule.{Env, env}
 use Rattle.netlist.specs.Settle.{Edited}
-use Rattle.netlist.specs.Changes.{Change, OfInput, OfContents, changedBy, touchesAny}
-use Rattle.netlist.specs.Table.{signalCount, netOf}
+use Rattle.netlist.specs.Changes.{Change, OfInput, OfContents, changed_by, touches_any}
+use Rattle.netlist.specs.Table.{signal_count, net_of}
 use Rattle.slicefile.specs.declared.Answer.{Answer}
-use Rattle.editlist.specs.Listed.{editLimit}
+use Rattle.editlist.specs.Listed.{edit_limit}
 use Rattle.editlist.specs.declared.Edit.{Edit}
 use Rattle.column.specs.Clock.{State, state_of}
-use Rattle.column.specs.File.{gateAt}
-use Rattle.plan.specs.Plan.{planEdges}
-use Rattle.buffers.specs.Buffers.{editRefusal, editRefusalBy, badInput, badTable, badTableBy, badWordsBy}
+use Rattle.column.specs.File.{gate_at}
+use Rattle.plan.specs.Plan.{plan_edges}
+use Rattle.buffers.specs.Buffers.{edit_refusal, edit_refusal_by, bad_input, bad_table, bad_table_by, bad_words_by}
 use Rattle.calls.specs.Calls.{Called, Planned}
 
 -- "each an input or a table's contents": kind 0 is an outside input, any other a table
-abbrev pub changeOf : Edit → Change
-changeOf e = cond (eqb e.kind 0) (OfInput e.number e.value) (OfContents e.number e.value)
+abbrev pub change_of : Edit → Change
+change_of e = cond (eqb e.kind 0) (OfInput e.number e.value) (OfContents e.number e.value)
 
 -- "the edits", as changes "in their order"
-abbrev pub changesOf : List Edit → List Change
-changesOf es = map changeOf es
+abbrev pub changes_of : List Edit → List Change
+changes_of es = map change_of es
 
 -- a change that is not in range, with m outside inputs and a test of a table's new contents
-abbrev pub badChange : (ℕ → ℕ → Bool) → ℕ → Change → Bool
-badChange bad m (OfInput j b) = badInput m j b
-badChange bad m (OfContents t w) = bad t w
+abbrev pub bad_change : (ℕ → ℕ → Bool) → ℕ → Change → Bool
+bad_change bad m (OfInput j b) = bad_input m j b
+bad_change bad m (OfContents t w) = bad t w
 
 -- a bad edit: of no kind, or of a change that is not in range
-abbrev pub badEdit : (ℕ → ℕ → Bool) → ℕ → Edit → Bool
-badEdit bad m e = ltb 1 e.kind || badChange bad m (changeOf e)
+abbrev pub bad_edit : (ℕ → ℕ → Bool) → ℕ → Edit → Bool
+bad_edit bad m e = ltb 1 e.kind || bad_change bad m (change_of e)
 
-abbrev pub anyBad : (ℕ → ℕ → Bool) → ℕ → List Edit → Bool
-anyBad bad m [] = false
-anyBad bad m (e ∷ es) = badEdit bad m e || anyBad bad m es
+abbrev pub any_bad : (ℕ → ℕ → Bool) → ℕ → List Edit → Bool
+any_bad bad m [] = false
+any_bad bad m (e ∷ es) = bad_edit bad m e || any_bad bad m es
 
 -- "one bad edit (11) or more than 256 (11)"
-unfoldable pub badEdits : (ℕ → ℕ → Bool) → ℕ → List Edit → Bool
-badEdits bad m es = ltb editLimit (length es) || anyBad bad m es
+unfoldable pub bad_edits : (ℕ → ℕ → Bool) → ℕ → List Edit → Bool
+bad_edits bad m es = ltb edit_limit (length es) || any_bad bad m es
 
 -- the contents and the flip-flops that a rule takes
-abbrev pub stateIn : Env → State
-stateIn e = state_of e.contents e.flops
+abbrev pub state_in : Env → State
+state_in e = state_of e.contents e.flops
 
 -- the refusal of an edit call on a file, with the buffers as they were
-abbrev pub editsRefusal : List ℕ → Env → List Edit → List ℕ → ℕ → ℕ → ℕ
-editsRefusal file before es old n m = editRefusal (badEdits (badTable file n) m es) file (stateIn before) before.inputs old n m
+abbrev pub edits_refusal : List ℕ → Env → List Edit → List ℕ → ℕ → ℕ → ℕ
+edits_refusal file before es old n m = edit_refusal (bad_edits (bad_table file n) m es) file (state_in before) before.inputs old n m
 
 -- the value table that edits leave, for the contents and inputs after them: what depends on any change of the list is recomputed, all else keeps its
 -- byte
 abbrev pub EditedFor : List ℕ → List Change → Env → List ℕ → List ℕ → ℕ → Type 0
-EditedFor file cs after old new n = Edited (gateAt file) (signalCount n) after (λ x. touchesAny cs (gateAt file x)) old new
+EditedFor file cs after old new n = Edited (gate_at file) (signal_count n) after (λ x. touches_any cs (gate_at file x)) old new
 
 -- the edit call: the contents, flip-flops and inputs before and after it, the edits, the values before and after it
 abbrev pub EditsMade : List ℕ → Env → Env → List Edit → List ℕ → List ℕ → Answer → Type 0
 EditsMade file before after es old new =
-    Called file (editsRefusal file before es old) ((after ≡ before) × (new ≡ old))
-    (λ n m. (after ≡ changedBy before (changesOf es)) × EditedFor file (changesOf es) after old new n)
+    Called file (edits_refusal file before es old) ((after ≡ before) × (new ≡ old))
+    (λ n m. (after ≡ changed_by before (changes_of es)) × EditedFor file (changes_of es) after old new n)
 
 -- the same over a plan of n slices and m outside inputs, whatever file it stands for
-abbrev pub planRefusal : List ℕ → ℕ → ℕ → Env → List Edit → List ℕ → ℕ
-planRefusal plan n m before es old =
-    editRefusalBy (badEdits (badTableBy (planEdges plan n) n) m es) (badWordsBy (planEdges plan n) before.contents) (stateIn before) before.inputs old n m
+abbrev pub plan_refusal : List ℕ → ℕ → ℕ → Env → List Edit → List ℕ → ℕ
+plan_refusal plan n m before es old =
+    edit_refusal_by (bad_edits (bad_table_by (plan_edges plan n) n) m es) (bad_words_by (plan_edges plan n) before.contents) (state_in before) before.inputs old n m
 
 abbrev pub EditedPlan : List ℕ → ℕ → List Change → Env → List ℕ → List ℕ → Type 0
-EditedPlan plan n cs after old new = Edited (netOf plan n) (signalCount n) after (λ x. touchesAny cs (netOf plan n x)) old new
+EditedPlan plan n cs after old new = Edited (net_of plan n) (signal_count n) after (λ x. touches_any cs (net_of plan n x)) old new
 
 abbrev pub EditsPlanned : List ℕ → ℕ → ℕ → Env → Env → List Edit → List ℕ → List ℕ → Answer → Type 0
 EditsPlanned plan n m before after es old new =
-    Planned (planRefusal plan n m before es old) ((after ≡ before) × (new ≡ old))
-    ((after ≡ changedBy before (changesOf es)) × EditedPlan plan n (changesOf es) after old new)
+    Planned (plan_refusal plan n m before es old) ((after ≡ before) × (new ≡ old))
+    ((after ≡ changed_by before (changes_of es)) × EditedPlan plan n (changes_of es) after old new)
 
 -- the two promises on lent buffers, as they were and as they are left
-abbrev pub envWas : Lent → Lent → Lent → Env
-envWas contents flops inputs = env (was contents) (was flops) (was inputs)
+abbrev pub env_was : Lent → Lent → Lent → Env
+env_was contents flops inputs = env (was contents) (was flops) (was inputs)
 
-abbrev pub envLeft : Lent → Lent → Lent → Env
-envLeft contents flops inputs = env (left contents) (was flops) (left inputs)
+abbrev pub env_left : Lent → Lent → Lent → Env
+env_left contents flops inputs = env (left contents) (was flops) (left inputs)
 
 abbrev pub Edits : Lent → Lent → Lent → Lent → Lent → List Edit → Answer → Type 0
 Edits file contents flops inputs values es =
-    EditsMade (was file) (envWas contents flops inputs) (envLeft contents flops inputs) es (was values) (left values)
+    EditsMade (was file) (env_was contents flops inputs) (env_left contents flops inputs) es (was values) (left values)
 
 abbrev pub PlanEdits : Lent → ℕ → ℕ → Lent → Lent → Lent → Lent → List Edit → Answer → Type 0
 PlanEdits plan n m contents flops inputs values es =
-    EditsPlanned (was plan) n m (envWas contents flops inputs) (envLeft contents flops inputs) es (was values) (left values)
+    EditsPlanned (was plan) n m (env_was contents flops inputs) (env_left contents flops inputs) es (was values) (left values)

@@ -3,8 +3,8 @@ use Rattle.std.specs.Prelude.{ℕ, ◌≤◌, ◌<◌, ◌≡◌, ◌||◌, List
 use Rattle.lent.specs.Lent.{Lent, was, left}
 use Rattle.netlist.specs.declared.Gate.{Gate}
 use Rattle.netlist.specs.Rule.{env}
-use Rattle.netlist.specs.Changes.{Change, OfInput, OfContents, changedBy, touchesAny}
-use Rattle.walks.specs.Marked.{touchesMarked}
+use Rattle.netlist.specs.Changes.{Change, OfInput, OfContents, changed_by, touches_any}
+use Rattle.walks.specs.Marked.{touches_marked}
 
 -- the contents and the inputs, and a mark for each input and each table
 pub record Store : Type 0 where
@@ -31,9 +31,9 @@ AllStorable tables inputs (c ∷ cs) = Storable tables inputs c × AllStorable t
 
 -- the changes are made in their order, and what touches one of them is marked
 pub record Stored (cs : List Change) (old new : Store) : Type 0 where
-  pub made : (flops : List ℕ) → env new.contents flops new.inputs ≡ changedBy (env old.contents flops old.inputs) cs
+  pub made : (flops : List ℕ) → env new.contents flops new.inputs ≡ changed_by (env old.contents flops old.inputs) cs
   pub marked :
-      (gate : Gate) → touchesMarked new.changed new.edited gate ≡ (touchesAny cs gate || touchesMarked old.changed old.edited gate)
+      (gate : Gate) → touches_marked new.changed new.edited gate ≡ (touches_any cs gate || touches_marked old.changed old.edited gate)
 
 -- the same on lent buffers, as they were and as they are left
 abbrev pub Stores : List Change → Lent → Lent → Lent → Lent → Type 0

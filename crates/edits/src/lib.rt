@@ -1,12 +1,12 @@
 // The call on a slice file and lent buffers that changes it as it runs: the edits of a list. Here the list is in words (crate `editlist`).
 ghost use Rattle.std.specs.Prelude.{◌≡◌, [], ◌∷◌, ◌*◌, ◌≤◌, length};
 ghost use Rattle.lent.specs.Lent.{was};
-ghost use Rattle.slicefile.specs.Format.{sliceLimit};
-ghost use Rattle.clocknumbers.specs.Numbers.{edgeLength};
-ghost use Rattle.editlist.specs.Listed.{editLimit, listLength, edit, editsIn};
+ghost use Rattle.slicefile.specs.Format.{slice_limit};
+ghost use Rattle.clocknumbers.specs.Numbers.{edge_length};
+ghost use Rattle.editlist.specs.Listed.{edit_limit, list_length, edit, edits_in};
 ghost use Rattle.plan.specs.Plan.{Runnable};
-ghost use Rattle.buffers.specs.Buffers.{badTableBy};
-ghost use Rattle.edits.specs.Edits.{changeOf, changesOf, badEdit, badEdits, Edits, PlanEdits};
+ghost use Rattle.buffers.specs.Buffers.{bad_table_by};
+ghost use Rattle.edits.specs.Edits.{change_of, changes_of, bad_edit, bad_edits, Edits, PlanEdits};
 ghost use Rattle.edits.specs.Storing.{store, Marks, Storable, AllStorable, Stores};
 
 use column::Verdict;
@@ -19,8 +19,8 @@ const CONTENTS_LIMIT: usize = 4 * SLICE_LIMIT;
 
 // Whether an edit is of no kind, or its change is not in range.
 fn bad_edit(edges: &[u16], n: usize, m: usize, kind: u64, number: u64, value: u64) -> bool
-    requires { (n ≤ sliceLimit) × (length edges.now ≡ edgeLength * n) }
-    ensures { result ≡ badEdit (badTableBy (was edges) n) m (edit kind number value) }
+    requires { (n ≤ slice_limit) × (length edges.now ≡ edge_length * n) }
+    ensures { result ≡ bad_edit (bad_table_by (was edges) n) m (edit kind number value) }
 {
     let at = number as usize;
     if kind == 0 {
@@ -31,8 +31,8 @@ fn bad_edit(edges: &[u16], n: usize, m: usize, kind: u64, number: u64, value: u6
 
 // Whether a list of edits is too long, or one of them is bad.
 fn bad_edits(edges: &[u16], n: usize, m: usize, words: &[u64], count: usize) -> bool
-    requires { (n ≤ sliceLimit) × (length edges.now ≡ edgeLength * n) × (length words.now ≡ listLength) }
-    ensures { result ≡ badEdits (badTableBy (was edges) n) m (editsIn (was words) count) }
+    requires { (n ≤ slice_limit) × (length edges.now ≡ edge_length * n) × (length words.now ≡ list_length) }
+    ensures { result ≡ bad_edits (bad_table_by (was edges) n) m (edits_in (was words) count) }
 {
     if EDIT_LIMIT < count {
         return true;
@@ -57,9 +57,9 @@ fn store_edit(
     changed: &mut [u8],
     edited: &mut [u8],
 )
-    requires storable { Storable (length contents.old) (length inputs.old) (changeOf (edit kind number value)) }
+    requires storable { Storable (length contents.old) (length inputs.old) (change_of (edit kind number value)) }
     requires marks { Marks (store contents.old inputs.old changed.old edited.old) }
-    ensures { Stores (changeOf (edit kind number value) ∷ []) contents inputs changed edited }
+    ensures { Stores (change_of (edit kind number value) ∷ []) contents inputs changed edited }
 {
     let at = number as usize;
     if kind == 0 {
@@ -80,10 +80,10 @@ fn store_edits(
     changed: &mut [u8],
     edited: &mut [u8],
 )
-    requires words_len { (length words.now ≡ listLength) × (count ≤ editLimit) }
-    requires all_storable { AllStorable (length contents.old) (length inputs.old) (changesOf (editsIn words.now count)) }
+    requires words_len { (length words.now ≡ list_length) × (count ≤ edit_limit) }
+    requires all_storable { AllStorable (length contents.old) (length inputs.old) (changes_of (edits_in words.now count)) }
     requires marks { Marks (store contents.old inputs.old changed.old edited.old) }
-    ensures { Stores (changesOf (editsIn (was words) count)) contents inputs changed edited }
+    ensures { Stores (changes_of (edits_in (was words) count)) contents inputs changed edited }
 {
     let mut i = 0;
     while i < count {
@@ -113,8 +113,8 @@ fn edit_planned(
     words: &[u64],
     count: usize,
 ) -> Answer
-    requires { Runnable n m plan.now × (length words.now ≡ listLength) }
-    ensures { PlanEdits plan n m contents flops inputs values (editsIn (was words) count) result }
+    requires { Runnable n m plan.now × (length words.now ≡ list_length) }
+    ensures { PlanEdits plan n m contents flops inputs values (edits_in (was words) count) result }
 {
     let edges = plan::edges(plan, n);
     let bad = bad_edits(edges, n, m, words, count);
@@ -141,7 +141,7 @@ pub fn edit(
     words: [u64; LIST_WORDS],
     count: usize,
 ) -> Answer
-    ensures { Edits file contents flops inputs values (editsIn words count) result }
+    ensures { Edits file contents flops inputs values (edits_in words count) result }
 {
     let mut plan = [0u16; PLAN_LIMIT];
     let v = plan::load(file, &mut plan);

@@ -5,7 +5,7 @@ use Prim.Native.Nat.{ℕ, suc, ◌+◌, ◌-◌, ◌*◌, ◌^◌, ◌≤◌, �
 use native.Mathlib.Nat.{two-pow-succ}
 use native.Mathlib.Omega.{arith}
 use lib.ListN.{get_or}
-use Rattle.evaluation.specs.Numbers.{numberOn}
+use Rattle.evaluation.specs.Numbers.{number_on}
 
 module _ (wires e : List ℕ) (i j k : ℕ) (more : 0 < j) (fits : j ≤ k) where
   one_more : k - (j - 1) ≡ suc (k - j)
@@ -13,11 +13,11 @@ module _ (wires e : List ℕ) (i j k : ℕ) (more : 0 < j) (fits : j ≤ k) wher
 
   -- one more wire, below those that are counted
   pub number_more :
-      numberOn wires e (i + (j - 1)) (k - (j - 1)) ≡ get_or wires (get_or e (i + (j - 1)) 0) 0 + 2 * numberOn wires e (i + j) (k - j)
-  unfolding numberOn
+      number_on wires e (i + (j - 1)) (k - (j - 1)) ≡ get_or wires (get_or e (i + (j - 1)) 0) 0 + 2 * number_on wires e (i + j) (k - j)
+  unfolding number_on
   number_more =
       let place : suc (i + (j - 1)) ≡ i + j = omega arith in
       rw (one_more, place)
 
-  pub small-more : {number b : ℕ} → number < 2 ^ (k - j) → b < 2 → b + 2 * number < 2 ^ (k - (j - 1))
-  small-more h small = rw one_more (omega (arith, two-pow-succ (k - j)))
+  pub small_more : {number b : ℕ} → number < 2 ^ (k - j) → b < 2 → b + 2 * number < 2 ^ (k - (j - 1))
+  small_more h small = rw one_more (omega (arith, two-pow-succ (k - j)))

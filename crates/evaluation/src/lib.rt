@@ -2,8 +2,8 @@
 ghost use Rattle.std.specs.Prelude.{◌≡◌, ◌+◌, ◌*◌, ◌^◌, ◌≤◌, ◌<◌, length, get_or};
 ghost use Rattle.lent.specs.Lent.{was};
 ghost use Rattle.netlist.specs.Rule.{choose};
-ghost use Rattle.netlist.specs.Table.{rowLength, signalCount, IsTable, storedHead};
-ghost use Rattle.evaluation.specs.Numbers.{Bits, AreWires, numberOn, GateGives};
+ghost use Rattle.netlist.specs.Table.{row_length, signal_count, IsTable, stored_head};
+ghost use Rattle.evaluation.specs.Numbers.{Bits, AreWires, number_on, GateGives};
 
 // The bit on the wire at a number.
 pub fn wire(wires: &[u8], number: u16) -> u8
@@ -16,7 +16,7 @@ pub fn wire(wires: &[u8], number: u16) -> u8
 // The number on the wires at the k numbers from place i, lowest first.
 pub fn number_on(numbers: &[u16], i: usize, k: usize, wires: &[u8]) -> u8
     requires { (i + k ≤ length numbers.now) × (k ≤ 8) × AreWires wires.now numbers.now i k × Bits wires.now }
-    ensures { (result ≡ numberOn (was wires) (was numbers) i k) × (result < 2 ^ k) }
+    ensures { (result ≡ number_on (was wires) (was numbers) i k) × (result < 2 ^ k) }
 {
     let mut number: u8 = 0;
     let mut j = k;
@@ -38,8 +38,8 @@ fn choose(select: u8, one: u8, zero: u8) -> u8
 // What signal x's gate gives by the wires, in the gate table of n slices. It is no flip-flop's. What a gate but a look-up may give is worked out before its
 // head is tested, so that only the test for a look-up is a branch.
 pub fn gate_value(table: &[u16], n: usize, x: usize, contents: &[u64], wires: &[u8]) -> u8
-    requires table { IsTable n table.now × (x < signalCount n) × (get_or table.now (rowLength * x) 0 < storedHead n) }
-    requires are_wires { AreWires wires.now table.now (rowLength * x + 1) 6 × Bits wires.now }
+    requires table { IsTable n table.now × (x < signal_count n) × (get_or table.now (row_length * x) 0 < stored_head n) }
+    requires are_wires { AreWires wires.now table.now (row_length * x + 1) 6 × Bits wires.now }
     ensures { GateGives (was contents) (was wires) n x (was table) result }
 {
     let at = netlist::ROW * x;

@@ -1,25 +1,25 @@
 -- Refusals 1 to 5 of a record as a whole, in the paper's order, before and around the rules of a slice's body.
 use Rattle.std.specs.Prelude.{ℕ, Bool, not, ◌&&◌, ◌||◌, List, leb, ltb, eqb, length}
-use Rattle.slicefile.specs.Format.{sliceLimit, inputLimit, sizeTag, sliceTag, endTag, headLength, bodyLength, recordLength, byte_at, pair_at, body_of, sliceCount, inputCount}
-use Rattle.rules.specs.Rules.{given, ◌orElse◌, bodyRefusal}
+use Rattle.slicefile.specs.Format.{slice_limit, input_limit, size_tag, slice_tag, end_tag, head_length, body_length, record_length, byte_at, pair_at, body_of, slice_count, input_count}
+use Rattle.rules.specs.Rules.{given, ◌orElse◌, body_refusal}
 
 -- "header whole (1), tag known (2), due (4), length (3), body whole (1)", of the record that begins the list
-unfoldable pub headerRefusal : ℕ → List ℕ → ℕ
-headerRefusal due s =
-    given 1 (ltb (length s) headLength)
-    or_else given 2 (not (leb sizeTag (byte_at s 0) && leb (byte_at s 0) endTag))
+unfoldable pub header_refusal : ℕ → List ℕ → ℕ
+header_refusal due s =
+    given 1 (ltb (length s) head_length)
+    or_else given 2 (not (leb size_tag (byte_at s 0) && leb (byte_at s 0) end_tag))
     or_else given 4 (not (eqb (byte_at s 0) due))
-    or_else given 3 (not (eqb (pair_at s 1) (bodyLength due)))
-    or_else given 1 (ltb (length s) (recordLength due))
+    or_else given 3 (not (eqb (pair_at s 1) (body_length due)))
+    or_else given 1 (ltb (length s) (record_length due))
 
 -- rule 5 for the size record: "n, m or a choice outside its list"
-unfoldable pub badSize : ℕ → ℕ → Bool
-badSize n m = eqb n 0 || ltb sliceLimit n || ltb inputLimit m
+unfoldable pub bad_size : ℕ → ℕ → Bool
+bad_size n m = eqb n 0 || ltb slice_limit n || ltb input_limit m
 
 -- the record of the slice of a number, which begins the list
-unfoldable pub sliceRefusal : ℕ → ℕ → ℕ → List ℕ → ℕ
-sliceRefusal n m number s = headerRefusal sliceTag s or_else bodyRefusal n m number (body_of sliceTag s)
+unfoldable pub slice_refusal : ℕ → ℕ → ℕ → List ℕ → ℕ
+slice_refusal n m number s = header_refusal slice_tag s or_else body_refusal n m number (body_of slice_tag s)
 
 -- the size record, which begins the file
-unfoldable pub sizeRefusal : List ℕ → ℕ
-sizeRefusal s = headerRefusal sizeTag s or_else given 5 (badSize (sliceCount s) (inputCount s))
+unfoldable pub size_refusal : List ℕ → ℕ
+size_refusal s = header_refusal size_tag s or_else given 5 (bad_size (slice_count s) (input_count s))

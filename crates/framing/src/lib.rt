@@ -1,8 +1,8 @@
 // Refusals 1 to 7 of the records of a file: the header, the size record, a slice and the end.
 ghost use Rattle.std.specs.Prelude.{◌≡◌, true, ◌↔◌, take};
 ghost use Rattle.lent.specs.Lent.{was};
-ghost use Rattle.slicefile.specs.Format.{headLength, bodyLength, endRecord};
-ghost use Rattle.framing.specs.Framing.{headerRefusal, badSize, sliceRefusal, sizeRefusal};
+ghost use Rattle.slicefile.specs.Format.{head_length, body_length, end_record};
+ghost use Rattle.framing.specs.Framing.{header_refusal, bad_size, slice_refusal, size_refusal};
 
 use slicefile::{
     END, END_TAG, HEAD, INPUT_COUNT, INPUT_LIMIT, SIZE_BODY, SIZE_TAG, SLICE_BODY, SLICE_COUNT,
@@ -10,7 +10,7 @@ use slicefile::{
 };
 
 fn body_length(tag: usize) -> usize
-    ensures { result ≡ bodyLength tag }
+    ensures { result ≡ body_length tag }
 {
     if tag == SIZE_TAG {
         return SIZE_BODY;
@@ -23,7 +23,7 @@ fn body_length(tag: usize) -> usize
 
 // Refusals 1 to 4 of the record that begins the slice of bytes, up to its body being whole; 0 where there is none.
 pub fn header_refusal(due: usize, s: &[u8]) -> usize
-    ensures { result ≡ headerRefusal due (was s) }
+    ensures { result ≡ header_refusal due (was s) }
 {
     if s.len() < HEAD {
         return 1;
@@ -49,7 +49,7 @@ pub fn header_refusal(due: usize, s: &[u8]) -> usize
 
 // Refusals 1 to 7 of the record of the slice of a number, which begins the slice of bytes.
 pub fn slice_refusal(n: usize, m: usize, number: usize, s: &[u8]) -> usize
-    ensures { result ≡ sliceRefusal n m number (was s) }
+    ensures { result ≡ slice_refusal n m number (was s) }
 {
     let h = header_refusal(SLICE_TAG, s);
     if h != 0 {
@@ -60,14 +60,14 @@ pub fn slice_refusal(n: usize, m: usize, number: usize, s: &[u8]) -> usize
 
 // Rule 5 on a file's slice count and outside inputs.
 pub fn bad_size(n: usize, m: usize) -> bool
-    ensures { result ≡ badSize n m }
+    ensures { result ≡ bad_size n m }
 {
     (n == 0) | (SLICE_LIMIT < n) | (INPUT_LIMIT < m)
 }
 
 // Refusals 1 to 5 of the size record, which begins the slice of bytes.
 pub fn size_refusal(s: &[u8]) -> usize
-    ensures { result ≡ sizeRefusal (was s) }
+    ensures { result ≡ size_refusal (was s) }
 {
     let h = header_refusal(SIZE_TAG, s);
     if h != 0 {
@@ -83,7 +83,7 @@ pub fn size_refusal(s: &[u8]) -> usize
 
 // Whether the bytes begin with the end record.
 pub fn is_end(s: &[u8]) -> bool
-    ensures { (result ≡ true) ↔ (take headLength (was s) ≡ endRecord) }
+    ensures { (result ≡ true) ↔ (take head_length (was s) ≡ end_record) }
 {
     if s.len() < HEAD {
         return false;

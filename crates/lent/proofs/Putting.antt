@@ -10,8 +10,8 @@ use lib.ListN.{length, get_or, set, take, drop, length-set, length-drop}
 use lib.Seq.{get_or-set_same, get_or-set_other, get_or-take, get_or-drop, ext_get_or, length-take-le}
 use Rattle.lent.specs.Put.{Put, PutAll}
 
-pub put-none : (f : ℕ → ℕ) (at : ℕ) (old : List ℕ) → Put f at 0 old old
-put-none f at old = record { long = refl; put = λ i h. absurd (not-suc-le-zero h); kept = λ c h. refl }
+pub put_none : (f : ℕ → ℕ) (at : ℕ) (old : List ℕ) → Put f at 0 old old
+put_none f at old = record { long = refl; put = λ i h. absurd (not-suc-le-zero h); kept = λ c h. refl }
 
 -- one more
 pub put_next : {f : ℕ → ℕ} {at k : ℕ} {old now : List ℕ} (v : ℕ) → v ≡ f k → at + k < length now → Put f at k old now → Put f at (k + 1) old (set now (at + k) v)
@@ -43,8 +43,8 @@ pub put_whole : {src old new : List ℕ} → length old ≡ length src → PutAl
 put_whole {src} {old} {new} size p = ext_get_or 0 new src (p.long ∙ size) (λ i h. rw (zero-add i) at (p.put i (omega (arith, p.long))))
 
 -- a run behind those that are put
-pub put-more : {f : ℕ → ℕ} {at k j : ℕ} {old now new : List ℕ} → Put f at k old now → Put (λ i. f (k + i)) (at + k) j now new → Put f at (k + j) old new
-put-more {f} {at} {k} {j} {old} {now} {new} p q =
+pub put_more : {f : ℕ → ℕ} {at k j : ℕ} {old now new : List ℕ} → Put f at k old now → Put (λ i. f (k + i)) (at + k) j now new → Put f at (k + j) old new
+put_more {f} {at} {k} {j} {old} {now} {new} p q =
     record {
       long = q.long ∙ p.long;
       put = λ i h. by i h (dec_lt i k);
@@ -76,8 +76,8 @@ module _ {f : ℕ → ℕ} {at k : ℕ} {old new : List ℕ} (p : Put f at k old
       get_or-take j new i 0 c ∙ p.kept i (inl (omega arith)) ∙ sym (get_or-take j old i 0 c))
 
   -- the part is the list with those numbers
-  pub put-part : at + k ≤ length old → (l : List ℕ) → length l ≡ k → ((i : ℕ) → i < k → get_or l i 0 ≡ f i) → take k (drop at new) ≡ l
-  put-part fits l size same =
+  pub put_part : at + k ≤ length old → (l : List ℕ) → length l ≡ k → ((i : ℕ) → i < k → get_or l i 0 ≡ f i) → take k (drop at new) ≡ l
+  put_part fits l size same =
       ext_get_or 0 (take k (drop at new)) l (whole ∙ sym size)
       (λ i b.
       let c : i < k = omega (arith, whole) in

@@ -8,11 +8,11 @@ picked contents pick on = bit_at (get_or contents (pick / 64) 0) ((pick + on) % 
 
 -- the last bit of the first i picks, 0 before the first. Each place is moved on by the bit before it, times the link: 1 makes the picks a chain, with
 -- 0 each is by itself.
-unfoldable pub lastBit : List ℕ → List ℕ → ℕ → ℕ → ℕ
-lastBit contents picks link zero = 0
-lastBit contents picks link (suc i) = picked contents (get_or picks i 0) (link * lastBit contents picks link i)
+unfoldable pub last_bit : List ℕ → List ℕ → ℕ → ℕ → ℕ
+last_bit contents picks link zero = 0
+last_bit contents picks link (suc i) = picked contents (get_or picks i 0) (link * last_bit contents picks link i)
 
 -- the sum of the bits of the first i picks
 unfoldable pub summed : List ℕ → List ℕ → ℕ → ℕ → ℕ
 summed contents picks link zero = 0
-summed contents picks link (suc i) = summed contents picks link i + lastBit contents picks link (suc i)
+summed contents picks link (suc i) = summed contents picks link i + last_bit contents picks link (suc i)

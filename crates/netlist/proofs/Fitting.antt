@@ -9,8 +9,8 @@ use Rattle.netlist.specs.declared.Source.{Source}
 use Rattle.netlist.specs.declared.Source.TheVariants.{Constant, Input, Signal}
 use Rattle.netlist.specs.declared.Gate.{Gate}
 use Rattle.netlist.specs.declared.Gate.TheVariants.{Lut, ZeroOf, Select, Xor, Same, Stored}
-use Rattle.netlist.specs.Rule.{sourcesOf, signalsIn, reads_of}
-use Rattle.netlist.specs.Table.{signalCount, SourceFits, GateFits}
+use Rattle.netlist.specs.Rule.{sources_of, signals_in, reads_of}
+use Rattle.netlist.specs.Table.{signal_count, SourceFits, GateFits}
 
 -- a netlist of more inputs has the gates of one with fewer
 module _ (n : ℕ) {m k : ℕ} (h : m ≤ k) where
@@ -35,8 +35,8 @@ module _ (n m : ℕ) where
   AllFit [] = Unit {0}
   AllFit (s ∷ ss) = SourceFits n m s × AllFit ss
 
-  all_fit : (gate : Gate) → GateFits n m gate → AllFit (sourcesOf gate)
-  unfolding GateFits sourcesOf
+  all_fit : (gate : Gate) → GateFits n m gate → AllFit (sources_of gate)
+  unfolding GateFits sources_of
   all_fit (Lut t p1 p2 p3 p4 p5 p6) f = (f.1, (f.2, (f.3, (f.4, (f.5, (f.6, tt))))))
   all_fit (ZeroOf t) f = tt
   all_fit (Select s one none) f = (f.0, (f.1, (f.2, tt)))
@@ -44,14 +44,14 @@ module _ (n m : ℕ) where
   all_fit (Same a) f = (f, tt)
   all_fit (Stored q) f = tt
 
-  signal-below : (ss : List Source) → AllFit ss → (y : ℕ) → Memᴰ y (signalsIn ss) → y < signalCount n
-  unfolding signalsIn
-  signal-below [] f y r = absurd (Memᴰ.not-nil r)
-  signal-below (Constant b ∷ ss) f y r = signal-below ss f.1 y r
-  signal-below (Input j ∷ ss) f y r = signal-below ss f.1 y r
-  signal-below (Signal x ∷ ss) f y r =
-      ⊎_elim (λ e. subst⁻¹ (λ (k : ℕ). k < signalCount n) e f.0) (λ t. signal-below ss f.1 y t) (Memᴰ.cases_cons r)
+  signal_below : (ss : List Source) → AllFit ss → (y : ℕ) → Memᴰ y (signals_in ss) → y < signal_count n
+  unfolding signals_in
+  signal_below [] f y r = absurd (Memᴰ.not-nil r)
+  signal_below (Constant b ∷ ss) f y r = signal_below ss f.1 y r
+  signal_below (Input j ∷ ss) f y r = signal_below ss f.1 y r
+  signal_below (Signal x ∷ ss) f y r =
+      ⊎_elim (λ e. subst⁻¹ (λ (k : ℕ). k < signal_count n) e f.0) (λ t. signal_below ss f.1 y t) (Memᴰ.cases_cons r)
 
-  pub fits-reads : (gate : Gate) → GateFits n m gate → (y : ℕ) → Memᴰ y (reads_of gate) → y < signalCount n
+  pub fits_reads : (gate : Gate) → GateFits n m gate → (y : ℕ) → Memᴰ y (reads_of gate) → y < signal_count n
   unfolding reads_of
-  fits-reads gate f = signal-below (sourcesOf gate) (all_fit gate f)
+  fits_reads gate f = signal_below (sources_of gate) (all_fit gate f)

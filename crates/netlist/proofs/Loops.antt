@@ -1,4 +1,4 @@
--- Every well-formed net has a topological order or a loop. Assumes nothing.
+-- Every well_formed net has a topological order or a loop. Assumes nothing.
 use mathlib.Core.Path.{◌≡◌, refl, sym, ◌∙◌, ap, subst, subst⁻¹}
 use mathlib.Core.List.{List, [], ◌∷◌, Memᴰ}
 use mathlib.Core.Logic.{◌⊎◌, inl, inr, ⊎_elim}
@@ -12,18 +12,18 @@ use lib.Seq.{get_or-set_same, get_or-set_other}
 use Rattle.netlist.specs.Graph.{Reads, Depends, Loop, LoopFree, WellFormed, Before, InOrder, Ordered}
 use Rattle.netlist.specs.Graph.Depends.{direct}
 use Rattle.netlist.specs.Invariant.{OrderedTo, Ready}
-use Rattle.netlist.proofs.Order.{depends-more}
-use Rattle.netlist.proofs.Pigeonhole.{lt-suc-cases, search-below, pigeonhole}
+use Rattle.netlist.proofs.Order.{depends_more}
+use Rattle.netlist.proofs.Pigeonhole.{lt_suc_cases, search_below, pigeonhole}
 
 -- whether y stands before place k
 before? : (order : List ℕ) (k y : ℕ) → Dec (Before order k y)
 before? order k y =
-    ⊎_elim (λ w. yes w) (λ none. no (λ w. none w.0 w.1 w.2)) (search-below (λ j. ℕ_discrete (get_or order j 0) y) k)
+    ⊎_elim (λ w. yes w) (λ none. no (λ w. none w.0 w.1 w.2)) (search_below (λ j. ℕ_discrete (get_or order j 0) y) k)
 
 -- all of some signals stand before place k, or one does not
-all-before : (order : List ℕ) (k : ℕ) (ys : List ℕ) → ((y : ℕ) → Memᴰ y ys → Before order k y) ⊎ ((y : ℕ) × Memᴰ y ys × (Before order k y → ⊥))
-all-before order k [] = inl (λ y m. elim m [ ])
-all-before order k (z ∷ zs) = step (before? order k z) (all-before order k zs)
+all_before : (order : List ℕ) (k : ℕ) (ys : List ℕ) → ((y : ℕ) → Memᴰ y ys → Before order k y) ⊎ ((y : ℕ) × Memᴰ y ys × (Before order k y → ⊥))
+all_before order k [] = inl (λ y m. elim m [ ])
+all_before order k (z ∷ zs) = step (before? order k z) (all_before order k zs)
   where
     both : Before order k z → ((y : ℕ) → Memᴰ y zs → Before order k y) → (y : ℕ) → Memᴰ y (z ∷ zs) → Before order k y
     both p all y (Memᴰ.head e) = subst⁻¹ (λ (w : ℕ). Before order k w) e p
@@ -38,11 +38,11 @@ all-before order k (z ∷ zs) = step (before? order k z) (all-before order k zs)
 
 -- storing at place k or above leaves what stands before place i, up to k
 module _ (order : List ℕ) (k v i : ℕ) (h : i ≤ k) where
-  pub before-set : (y : ℕ) → Before order i y → Before (set order k v) i y
-  before-set y b = (b.0, b.1, get_or-set_other order k b.0 v 0 (λ q. lt_irrefl k (omega arith)) ∙ b.2)
+  pub before_set : (y : ℕ) → Before order i y → Before (set order k v) i y
+  before_set y b = (b.0, b.1, get_or-set_other order k b.0 v 0 (λ q. lt_irrefl k (omega arith)) ∙ b.2)
 
-  pub before-unset : (y : ℕ) → Before (set order k v) i y → Before order i y
-  before-unset y b = (b.0, b.1, sym (get_or-set_other order k b.0 v 0 (λ q. lt_irrefl k (omega arith))) ∙ b.2)
+  pub before_unset : (y : ℕ) → Before (set order k v) i y → Before order i y
+  before_unset y b = (b.0, b.1, sym (get_or-set_other order k b.0 v 0 (λ q. lt_irrefl k (omega arith))) ∙ b.2)
 
 module _ (reads : ℕ → List ℕ) (N : ℕ) where
   -- place i of a list with another element stored at k holds x, which can stand there
@@ -52,15 +52,15 @@ module _ (reads : ℕ → List ℕ) (N : ℕ) where
   in_order order k v i x h e b r =
       record {
         below = rw e b;
-        first = λ w. r.fresh (rw e at (before-unset order k v i h (get_or (set order k v) i 0) w));
-        after = λ y m. before-set order k v i h y (r.after y (subst (λ (w : ℕ). Reads reads w y) e m));
+        first = λ w. r.fresh (rw e at (before_unset order k v i h (get_or (set order k v) i 0) w));
+        after = λ y m. before_set order k v i h y (r.after y (subst (λ (w : ℕ). Reads reads w y) e m));
       }
 
   -- one more place
-  pub place-next :
+  pub place_next :
       (order : List ℕ) (k x : ℕ) → k < length order → OrderedTo reads N order k → x < N → Ready reads order k x
       → OrderedTo reads N (set order k x) (k + 1)
-  place-next order k x l pre b r =
+  place_next order k x l pre b r =
       below_more _ k
       (λ i h.
       let o = pre i h in
@@ -94,18 +94,18 @@ module _ (reads : ℕ → List ℕ) (N : ℕ) where
     links s i zero h = absurd (not-suc-le-zero h)
     links s i (suc j) h =
         ⊎_elim (λ q. direct (subst⁻¹ (λ (k : ℕ). Reads reads (number s k) (number s (suc j))) q (link s j)))
-        (λ l. depends-more (links s i j l) (link s j)) (lt-suc-cases h)
+        (λ l. depends_more (links s i j l) (link s j)) (lt_suc_cases h)
 
-    chain-loops : (x : ℕ) → x < N → P x → (y : ℕ) × (y < N) × Loop reads y
+    chain_loops : (x : ℕ) → x < N → P x → (y : ℕ) × (y < N) × Loop reads y
     unfolding Member number
-    chain-loops x h p =
+    chain_loops x h p =
         let s : Member = (x, h, p) in
         let c = pigeonhole N (number s) (λ i l. (chain s i).1) in
         (number s c.0, (chain s c.0).1, subst⁻¹ (λ (z : ℕ). Depends reads (number s c.0) z) c.4 (links s c.0 c.1 c.2))
 
   -- fewer than N places lack some signal
   lacks : (order : List ℕ) (k : ℕ) → k < N → (x : ℕ) × (x < N) × (Before order k x → ⊥)
-  lacks order k short = ⊎_elim (λ w. w) (λ none. absurd (full none)) (search-below (λ x. refuted (before? order k x)) N)
+  lacks order k short = ⊎_elim (λ w. w) (λ none. absurd (full none)) (search_below (λ x. refuted (before? order k x)) N)
     where
       refuted : {A : Type 0} → Dec A → Dec (A → ⊥)
       refuted (yes a) = no (λ n. n a)
@@ -131,7 +131,7 @@ module _ (reads : ℕ → List ℕ) (N : ℕ) where
           omega arith
 
   ready? : (order : List ℕ) (k x : ℕ) → Dec (Ready reads order k x)
-  ready? order k x = go (before? order k x) (all-before order k (reads x))
+  ready? order k x = go (before? order k x) (all_before order k (reads x))
     where
       go :
           Dec (Before order k x)
@@ -143,12 +143,12 @@ module _ (reads : ℕ → List ℕ) (N : ℕ) where
   module _ (wf : WellFormed reads N) where
     -- where no signal can stand at place k below N, there is a loop
     pub stuck : (order : List ℕ) (k : ℕ) → k < N → ((x : ℕ) → x < N → Ready reads order k x → ⊥) → (x : ℕ) × (x < N) × Loop reads x
-    stuck order k short none = let s = lacks order k short in chain-loops next s.0 s.1 s.2
+    stuck order k short none = let s = lacks order k short in chain_loops next s.0 s.1 s.2
       where
         next : (x : ℕ) → x < N → (Before order k x → ⊥) → (y : ℕ) × Reads reads x y × (y < N) × (Before order k y → ⊥)
         next x h n =
             ⊎_elim (λ a. absurd (none x h (record { fresh = n; after = a }))) (λ w. (w.0, w.1, wf x w.0 h w.1, w.2))
-            (all-before order k (reads x))
+            (all_before order k (reads x))
 
     build :
         (left : ℕ) (order : List ℕ) (k : ℕ) → length order ≡ N → OrderedTo reads N order k → k + left ≡ N
@@ -157,15 +157,15 @@ module _ (reads : ℕ → List ℕ) (N : ℕ) where
     build (suc left) order k size pre e =
         ⊎_elim
         (λ w.
-        build left (set order k w.0) (k + 1) (length-set order k w.0 ∙ size) (place-next order k w.0 (omega arith) pre w.1 w.2)
+        build left (set order k w.0) (k + 1) (length-set order k w.0 ∙ size) (place_next order k w.0 (omega arith) pre w.1 w.2)
         (omega arith))
         (λ none. inr (stuck order k (omega arith) none))
-        (search-below (ready? order k) N)
+        (search_below (ready? order k) N)
 
     -- a topological order, or a signal on a loop
-    pub order-or-loop : ((order : List ℕ) × Ordered reads N order) ⊎ ((x : ℕ) × (x < N) × Loop reads x)
-    order-or-loop = build N (replicate N 0) 0 (length-replicate N 0) (λ i h. absurd (not-suc-le-zero h)) (omega arith)
+    pub order_or_loop : ((order : List ℕ) × Ordered reads N order) ⊎ ((x : ℕ) × (x < N) × Loop reads x)
+    order_or_loop = build N (replicate N 0) 0 (length-replicate N 0) (λ i h. absurd (not-suc-le-zero h)) (omega arith)
 
     -- a net with no loop has a topological order
-    pub some-order : LoopFree reads N → (order : List ℕ) × Ordered reads N order
-    some-order free = ⊎_elim (λ w. w) (λ w. absurd (free w.0 w.1 w.2)) order-or-loop
+    pub some_order : LoopFree reads N → (order : List ℕ) × Ordered reads N order
+    some_order free = ⊎_elim (λ w. w) (λ w. absurd (free w.0 w.1 w.2)) order_or_loop

@@ -2,7 +2,7 @@
 ghost use Rattle.std.specs.Prelude.{◌≡◌, ◌+◌, ◌*◌, ◌≤◌, length};
 ghost use Rattle.std.proofs.lemmas.List.Edits.{sets};
 ghost use Rattle.lent.specs.Lent.{was, left};
-ghost use Rattle.netlist.specs.Table.{rowLength};
+ghost use Rattle.netlist.specs.Table.{row_length};
 
 // How many signals and how many outside inputs a netlist may have.
 pub const SIGNAL_LIMIT: usize = 2048;
@@ -62,8 +62,8 @@ pub enum Gate {
 
 // Puts signal x's row into the gate table.
 pub fn put_row(table: &mut [u16], x: usize, row: [u16; ROW])
-    requires { rowLength * x + rowLength ≤ length table.old }
-    ensures { left table ≡ sets (was table) (rowLength * x) row }
+    requires { row_length * x + row_length ≤ length table.old }
+    ensures { left table ≡ sets (was table) (row_length * x) row }
 {
     let at = ROW * x;
     table[at] = row[0];

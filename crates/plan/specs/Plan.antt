@@ -3,57 +3,57 @@
 use Rattle.std.specs.Prelude.{ℕ, ◌+◌, ◌*◌, ◌/◌, ◌%◌, ◌≤◌, ◌<◌, ◌≡◌, List, length, take, drop}
 use Rattle.netlist.specs.Agree.{Agree}
 use Rattle.netlist.specs.Graph.{Ordered}
-use Rattle.netlist.specs.Table.{signalCount, tableLength, inputRoom, netOf, FlopsFirst, InRange}
-use Rattle.netlist.specs.Wires.{IsWires, wiresOf}
-use Rattle.slicefile.specs.Format.{sliceLimit}
-use Rattle.clocknumbers.specs.Numbers.{edgeLength, edgeNumber, edgeNumbers}
-use Rattle.clockedge.specs.Moves.{EdgesFit, edge_at, wordsBy, bytesBy}
+use Rattle.netlist.specs.Table.{signal_count, table_length, input_room, net_of, FlopsFirst, InRange}
+use Rattle.netlist.specs.Wires.{IsWires, wires_of}
+use Rattle.slicefile.specs.Format.{slice_limit}
+use Rattle.clocknumbers.specs.Numbers.{edge_length, edge_number, edge_numbers}
+use Rattle.clockedge.specs.Moves.{EdgesFit, edge_at, words_by, bytes_by}
 use Rattle.walks.specs.Walks.{Walkable}
 use Rattle.column.specs.Clock.{State, state_of}
-use Rattle.column.specs.File.{sliceBody, gateAt}
-use Rattle.column.specs.Judge.{readsAt, Judged}
+use Rattle.column.specs.File.{slice_body, gate_at}
+use Rattle.column.specs.Judge.{reads_at, Judged}
 use Rattle.column.specs.declared.Verdict.{Verdict}
 use Rattle.column.specs.declared.Verdict.TheVariants.{Refused, Accepted}
 
 -- where the edges' numbers and the order begin in a plan of n slices, and its length; the longest file's
-abbrev pub edgesPlace : ℕ → ℕ
-edgesPlace n = tableLength n
+abbrev pub edges_place : ℕ → ℕ
+edges_place n = table_length n
 
-abbrev pub orderPlace : ℕ → ℕ
-orderPlace n = edgesPlace n + edgeLength * n
+abbrev pub order_place : ℕ → ℕ
+order_place n = edges_place n + edge_length * n
 
-abbrev pub planLength : ℕ → ℕ
-planLength n = orderPlace n + signalCount n
+abbrev pub plan_length : ℕ → ℕ
+plan_length n = order_place n + signal_count n
 
-abbrev pub planLimit : ℕ
-planLimit = planLength sliceLimit
+abbrev pub plan_limit : ℕ
+plan_limit = plan_length slice_limit
 
 -- its three parts
-abbrev pub planTable : List ℕ → ℕ → List ℕ
-planTable plan n = take (tableLength n) plan
+abbrev pub plan_table : List ℕ → ℕ → List ℕ
+plan_table plan n = take (table_length n) plan
 
-abbrev pub planEdges : List ℕ → ℕ → List ℕ
-planEdges plan n = take (edgeLength * n) (drop (edgesPlace n) plan)
+abbrev pub plan_edges : List ℕ → ℕ → List ℕ
+plan_edges plan n = take (edge_length * n) (drop (edges_place n) plan)
 
-abbrev pub planOrder : List ℕ → ℕ → List ℕ
-planOrder plan n = take (signalCount n) (drop (orderPlace n) plan)
+abbrev pub plan_order : List ℕ → ℕ → List ℕ
+plan_order plan n = take (signal_count n) (drop (order_place n) plan)
 
 -- the edges' numbers of a file, one slice after the other, by their index
-abbrev pub edgesOf : List ℕ → ℕ → ℕ → ℕ → ℕ
-edgesOf file n m i = edgeNumber n m (i / edgeLength) (sliceBody file (i / edgeLength)) (i % edgeLength)
+abbrev pub edges_of : List ℕ → ℕ → ℕ → ℕ → ℕ
+edges_of file n m i = edge_number n m (i / edge_length) (slice_body file (i / edge_length)) (i % edge_length)
 
 -- a plan stands for a file of n slices and m outside inputs: the one fact between the file and its numbers
 pub record Represents (file : List ℕ) (n m : ℕ) (plan : List ℕ) : Type 0 where
-  pub gates : Agree (netOf plan n) (gateAt file) (signalCount n)
-  pub range : InRange n m (planTable plan n)
-  pub edges : (s : ℕ) → s < n → edge_at (planEdges plan n) s ≡ edgeNumbers n m s (sliceBody file s)
-  pub ordered : Ordered (readsAt file) (signalCount n) (planOrder plan n)
-  pub flops : FlopsFirst n (planOrder plan n)
+  pub gates : Agree (net_of plan n) (gate_at file) (signal_count n)
+  pub range : InRange n m (plan_table plan n)
+  pub edges : (s : ℕ) → s < n → edge_at (plan_edges plan n) s ≡ edge_numbers n m s (slice_body file s)
+  pub ordered : Ordered (reads_at file) (signal_count n) (plan_order plan n)
+  pub flops : FlopsFirst n (plan_order plan n)
 
 -- an accepted file with its plan at the front of a buffer
 pub record Ready (file : List ℕ) (n m : ℕ) (plan : List ℕ) : Type 0 where
   pub verdict : Judged file (Accepted n m)
-  pub room : planLength n ≤ length plan
+  pub room : plan_length n ≤ length plan
   pub represents : Represents file n m plan
 
 -- a file judged and loaded
@@ -63,14 +63,14 @@ Loaded file plan (Accepted n m) = Ready file n m plan
 
 -- what a plan must have to be run on, whatever file it stands for: a table and an order to walk along, and edges whose sources are wires
 pub record Runnable (n m : ℕ) (plan : List ℕ) : Type 0 where
-  pub few : n ≤ sliceLimit
-  pub narrow : m ≤ inputRoom
-  pub room : planLength n ≤ length plan
-  pub walk : Walkable n m (planTable plan n) (planOrder plan n)
-  pub edges : (wires : List ℕ) → IsWires n m wires → EdgesFit n wires (planEdges plan n)
+  pub few : n ≤ slice_limit
+  pub narrow : m ≤ input_room
+  pub room : plan_length n ≤ length plan
+  pub walk : Walkable n m (plan_table plan n) (plan_order plan n)
+  pub edges : (wires : List ℕ) → IsWires n m wires → EdgesFit n wires (plan_edges plan n)
 
 -- the state after the clock edge, from the value table settled before it
-abbrev pub clockedBy : List ℕ → ℕ → State → List ℕ → List ℕ → State
-clockedBy plan n st inputs values =
-    let wires = wiresOf inputs values in
-    state_of (wordsBy wires (planEdges plan n) n st.contents) (bytesBy wires (planEdges plan n) n st.flops)
+abbrev pub clocked_by : List ℕ → ℕ → State → List ℕ → List ℕ → State
+clocked_by plan n st inputs values =
+    let wires = wires_of inputs values in
+    state_of (words_by wires (plan_edges plan n) n st.contents) (bytes_by wires (plan_edges plan n) n st.flops)

@@ -2,11 +2,11 @@
 ghost use Rattle.std.specs.Prelude.{◌≡◌, ◌+◌, ◌*◌, ◌≤◌, ◌<◌, length};
 ghost use Rattle.lent.specs.Lent.{was, left};
 ghost use Rattle.lent.specs.Put.{Put, PutAll};
-ghost use Rattle.clocknumbers.specs.Numbers.{edgeLength};
-ghost use Rattle.netlist.specs.Table.{signalLimit};
+ghost use Rattle.clocknumbers.specs.Numbers.{edge_length};
+ghost use Rattle.netlist.specs.Table.{signal_limit};
 ghost use Rattle.column.specs.Check.{IsSound};
 ghost use Rattle.column.specs.Compile.{Ready as Netlisted};
-ghost use Rattle.plan.specs.Plan.{edgesPlace, planLength, planLimit, planTable, planEdges, planOrder, edgesOf, Ready, Loaded};
+ghost use Rattle.plan.specs.Plan.{edges_place, plan_length, plan_limit, plan_table, plan_edges, plan_order, edges_of, Ready, Loaded};
 
 use clocknumbers::EDGE_LENGTH;
 use column::{TABLE_LIMIT, Verdict};
@@ -18,16 +18,16 @@ pub const PLAN_LIMIT: usize = (SLICE_NUMBERS + EDGE_LENGTH + SLICE_SIGNALS) * SL
 
 // The gate table of a plan of n slices.
 pub fn table(plan: &[u16], n: usize) -> &[u16]
-    requires { (planLength n ≤ length plan.now) × (planLength n ≤ planLimit) }
-    ensures { result.now ≡ planTable (was plan) n }
+    requires { (plan_length n ≤ length plan.now) × (plan_length n ≤ plan_limit) }
+    ensures { result.now ≡ plan_table (was plan) n }
 {
     &plan[..SLICE_NUMBERS * n]
 }
 
 // The numbers of its slices' edges.
 pub fn edges(plan: &[u16], n: usize) -> &[u16]
-    requires { (planLength n ≤ length plan.now) × (planLength n ≤ planLimit) }
-    ensures { result.now ≡ planEdges (was plan) n }
+    requires { (plan_length n ≤ length plan.now) × (plan_length n ≤ plan_limit) }
+    ensures { result.now ≡ plan_edges (was plan) n }
 {
     let at = SLICE_NUMBERS * n;
     &plan[at..at + EDGE_LENGTH * n]
@@ -35,8 +35,8 @@ pub fn edges(plan: &[u16], n: usize) -> &[u16]
 
 // Its order.
 pub fn order(plan: &[u16], n: usize) -> &[u16]
-    requires { (planLength n ≤ length plan.now) × (planLength n ≤ planLimit) }
-    ensures { result.now ≡ planOrder (was plan) n }
+    requires { (plan_length n ≤ length plan.now) × (plan_length n ≤ plan_limit) }
+    ensures { result.now ≡ plan_order (was plan) n }
 {
     let at = (SLICE_NUMBERS + EDGE_LENGTH) * n;
     &plan[at..at + SLICE_SIGNALS * n]
@@ -56,8 +56,8 @@ fn copy_to(to: &mut [u16], at: usize, from: &[u16])
 
 // Puts the numbers of the edges of a sound file's slices behind the gate table.
 fn put_edges(file: &[u8], n: usize, m: usize, plan: &mut [u16])
-    requires { IsSound file.now n m × (length plan.old ≡ planLimit) }
-    ensures { Put (edgesOf (was file) n m) (edgesPlace n) (edgeLength * n) (was plan) (left plan) }
+    requires { IsSound file.now n m × (length plan.old ≡ plan_limit) }
+    ensures { Put (edges_of (was file) n m) (edges_place n) (edge_length * n) (was plan) (left plan) }
 {
     let mut s = 0;
     while s < n {
@@ -71,7 +71,7 @@ fn put_edges(file: &[u8], n: usize, m: usize, plan: &mut [u16])
 // Puts the edges' numbers and the order of an accepted file behind its gate table.
 fn complete(file: &[u8], n: usize, m: usize, turns: &[u16], plan: &mut [u16])
     requires netlisted { Netlisted file.now n m plan.old turns.now }
-    requires turns_len { (length turns.now ≡ signalLimit) × (length plan.old ≡ planLimit) }
+    requires turns_len { (length turns.now ≡ signal_limit) × (length plan.old ≡ plan_limit) }
     ensures { Ready (was file) n m (left plan) }
 {
     put_edges(file, n, m, plan);
@@ -84,7 +84,7 @@ fn complete(file: &[u8], n: usize, m: usize, turns: &[u16], plan: &mut [u16])
 
 // Judges any bytes, and leaves the plan of an accepted file at the front of the buffer.
 pub fn load(file: &[u8], plan: &mut [u16]) -> Verdict
-    requires { length plan.old ≡ planLimit }
+    requires { length plan.old ≡ plan_limit }
     ensures { Loaded (was file) (left plan) result }
 {
     let mut turns = [0u16; SIGNAL_LIMIT];

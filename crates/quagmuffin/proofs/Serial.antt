@@ -8,7 +8,7 @@ use native.Mathlib.Omega.{arith}
 use borrow.Author.Tests.{eq-eqb, ne_eqb}
 use lib.Dec.{eqb}
 use lib.ListN.{length, get_or, take}
-use Rattle.column.specs.File.{fileLimit}
+use Rattle.column.specs.File.{file_limit}
 use Rattle.column.specs.Judge.{Judged}
 use Rattle.column.specs.declared.Verdict.{Verdict}
 use Rattle.column.specs.declared.Verdict.TheVariants.{Refused, Accepted}
@@ -16,42 +16,42 @@ use Rattle.stream.specs.declared.Reply.{Reply}
 use Rattle.stream.specs.declared.Reply.TheVariants.{More, Given}
 use Rattle.stream.specs.declared.Reader.{Reader}
 use Rattle.stream.specs.declared.Fed.{Fed}
-use Rattle.stream.specs.Feeding.{reader, outOfRange, Keeps, Feeds}
-use Rattle.stream.specs.Sessions.{Owed, Call, Session, no-calls as none, call as one, joined, firstVerdict, Follows, noCall}
-use Rattle.stream.proofs.Calls.{wrong-told, again-told, out-of-range-told}
-use Rattle.stream.proofs.AnyState.{accepted-kept}
-use Rattle.stream.proofs.Determined.{feeds-unique}
-use Rattle.stream.proofs.Serial.{session, session-owed}
-use Rattle.quagmuffin.specs.Packed.{packVerdict, SmallVerdict}
-use Rattle.quagmuffin.specs.Serial.{stateLength, packReply, unpackReply, readerOf, words_of, is_last, FedWords, WordsBy, FeedsWords, Serial, no-calls, call, freshWords, SmallReply}
-use Rattle.quagmuffin.proofs.Exported.{verdict-back}
-use Rattle.quagmuffin.proofs.Words.{told_more, told-verdict, reply-again, words-again, feeds-all}
+use Rattle.stream.specs.Feeding.{reader, out_of_range, Keeps, Feeds}
+use Rattle.stream.specs.Sessions.{Owed, Call, Session, no_calls as none, call as one, joined, first_verdict, Follows, no_call}
+use Rattle.stream.proofs.Calls.{wrong_told, again_told, out_of_range_told}
+use Rattle.stream.proofs.AnyState.{accepted_kept}
+use Rattle.stream.proofs.Determined.{feeds_unique}
+use Rattle.stream.proofs.Serial.{session, session_owed}
+use Rattle.quagmuffin.specs.Packed.{pack_verdict, SmallVerdict}
+use Rattle.quagmuffin.specs.Serial.{state_length, pack_reply, unpack_reply, reader_of, words_of, is_last, FedWords, WordsBy, FeedsWords, Serial, no_calls, call, fresh_words, SmallReply}
+use Rattle.quagmuffin.proofs.Exported.{verdict_back}
+use Rattle.quagmuffin.proofs.Words.{told_more, told_verdict, reply_again, words_again, feeds_all}
 
 -- ---- answers and words, unpacked
-not-zero : (v : Verdict) → SmallVerdict v → packVerdict v ≡ 0 → ⊥
-not-zero (Refused k p) s e = omega (arith, s.0)
-not-zero (Accepted n m) s e = omega (arith, s.0)
+not_zero : (v : Verdict) → SmallVerdict v → pack_verdict v ≡ 0 → ⊥
+not_zero (Refused k p) s e = omega (arith, s.0)
+not_zero (Accepted n m) s e = omega (arith, s.0)
 
 abbrev Back : Reply → Type 0
-Back reply = unpackReply (packReply reply) ≡ reply
+Back reply = unpack_reply (pack_reply reply) ≡ reply
 
-small-back : (v : Verdict) → SmallVerdict v → Back (Given v)
-small-back v s = told-verdict (packVerdict v) (not-zero v s) ∙ ap Given (verdict-back v s)
+small_back : (v : Verdict) → SmallVerdict v → Back (Given v)
+small_back v s = told_verdict (pack_verdict v) (not_zero v s) ∙ ap Given (verdict_back v s)
 
 module _ {state store run : List ℕ} {last answer : ℕ} {words after : List ℕ} where
   -- a state of its length
-  pub words-told : length state ≡ stateLength → FeedsWords state store run last answer words after → FedWords state store run last answer words after
-  words-told e f = subst (λ (b : Bool). WordsBy b state store run last answer words after) (eq-eqb (length state) stateLength e) f.by
+  pub words_told : length state ≡ state_length → FeedsWords state store run last answer words after → FedWords state store run last answer words after
+  words_told e f = subst (λ (b : Bool). WordsBy b state store run last answer words after) (eq-eqb (length state) state_length e) f.by
 
   module _ (f : FedWords state store run last answer words after) where
     back : Back f.fed.reply × Back f.fed.reader.said
-    back = feeds-all Back small-back refl (readerOf state) store run (is_last last) f.fed after (ap unpackReply (reply-again (get_or state 2 0))) f.feeds
+    back = feeds_all Back small_back refl (reader_of state) store run (is_last last) f.fed after (ap unpack_reply (reply_again (get_or state 2 0))) f.feeds
 
-    pub answer-told : unpackReply answer ≡ f.fed.reply
-    answer-told = ap unpackReply f.says ∙ back.0
+    pub answer_told : unpack_reply answer ≡ f.fed.reply
+    answer_told = ap unpack_reply f.says ∙ back.0
 
-    pub state-told : readerOf words ≡ f.fed.reader
-    state-told = ap readerOf f.hands ∙ ap (λ (x : Reply). reader f.fed.reader.len f.fed.reader.passed x) back.1
+    pub state_told : reader_of words ≡ f.fed.reader
+    state_told = ap reader_of f.hands ∙ ap (λ (x : Reply). reader f.fed.reader.len f.fed.reader.passed x) back.1
 
 -- ---- the ways a call goes, by its words
 module _ {state store run : List ℕ} {last answer : ℕ} {words after : List ℕ} (f : FeedsWords state store run last answer words after) where
@@ -60,88 +60,88 @@ module _ {state store run : List ℕ} {last answer : ℕ} {words after : List �
   Stays number = (answer ≡ number) × (words ≡ state) × (after ≡ store)
 
   -- a state of another length
-  pub state-wrong : (length state ≡ stateLength → ⊥) → Stays 10
-  state-wrong ne = subst (λ (b : Bool). WordsBy b state store run last answer words after) (ne_eqb (length state) stateLength ne) f.by
+  pub state_wrong : (length state ≡ state_length → ⊥) → Stays 10
+  state_wrong ne = subst (λ (b : Bool). WordsBy b state store run last answer words after) (ne_eqb (length state) state_length ne) f.by
 
-  module _ (three : length state ≡ stateLength) where
+  module _ (three : length state ≡ state_length) where
     abbrev w : FedWords state store run last answer words after
-    w = words-told three f
+    w = words_told three f
 
-    stays : {reply : Reply} → Keeps reply (readerOf state) store w.fed after → Stays (packReply reply)
+    stays : {reply : Reply} → Keeps reply (reader_of state) store w.fed after → Stays (pack_reply reply)
     stays k =
-        (w.says ∙ ap packReply k.says, w.hands ∙ ap words_of k.same ∙ words-again state three, k.untouched)
+        (w.says ∙ ap pack_reply k.says, w.hands ∙ ap words_of k.same ∙ words_again state three, k.untouched)
 
     -- a store of another length
-    pub store-wrong : (length store ≡ fileLimit → ⊥) → Stays 10
-    store-wrong ne = stays (wrong-told ne w.feeds)
+    pub store_wrong : (length store ≡ file_limit → ⊥) → Stays 10
+    store_wrong ne = stays (wrong_told ne w.feeds)
 
-    module _ (full : length store ≡ fileLimit) where
+    module _ (full : length store ≡ file_limit) where
       -- a verdict that was given
-      pub verdict-again : (get_or state 2 0 ≡ 0 → ⊥) → Stays (get_or state 2 0)
-      verdict-again ne =
-          let k = stays (again-told full (told-verdict (get_or state 2 0) ne) w.feeds) in
-          (k.0 ∙ ap packReply (sym (told-verdict (get_or state 2 0) ne)) ∙ reply-again (get_or state 2 0), k.1, k.2)
+      pub verdict_again : (get_or state 2 0 ≡ 0 → ⊥) → Stays (get_or state 2 0)
+      verdict_again ne =
+          let k = stays (again_told full (told_verdict (get_or state 2 0) ne) w.feeds) in
+          (k.0 ∙ ap pack_reply (sym (told_verdict (get_or state 2 0) ne)) ∙ reply_again (get_or state 2 0), k.1, k.2)
 
       -- a state that no call leaves
-      pub state-out-of-range : get_or state 2 0 ≡ 0 → outOfRange (readerOf state) ≡ true → Stays 11
-      state-out-of-range z e = stays (out-of-range-told full (told_more (get_or state 2 0) z) e w.feeds)
+      pub state_out_of_range : get_or state 2 0 ≡ 0 → out_of_range (reader_of state) ≡ true → Stays 11
+      state_out_of_range z e = stays (out_of_range_told full (told_more (get_or state 2 0) z) e w.feeds)
 
     -- whatever the state: what is accepted the judge accepts, and it is the front of the store, of so many bytes as the first word says
-    pub accepted-front : {n m : ℕ} → get_or state 2 0 ≡ 0 → unpackReply answer ≡ Given (Accepted n m)
+    pub accepted_front : {n m : ℕ} → get_or state 2 0 ≡ 0 → unpack_reply answer ≡ Given (Accepted n m)
         → let bytes = take (get_or state 0 0) store ++ run in Judged bytes (Accepted n m) × (take (get_or words 0 0) after ≡ bytes)
-    accepted-front z e =
-        let a = accepted-kept (readerOf state) store run (is_last last) w.fed after (sym (answer-told w) ∙ e) (told_more (get_or state 2 0) z) w.feeds in
+    accepted_front z e =
+        let a = accepted_kept (reader_of state) store run (is_last last) w.fed after (sym (answer_told w) ∙ e) (told_more (get_or state 2 0) z) w.feeds in
         (a.0, ap (λ (l : List ℕ). take (get_or l 0 0) after) w.hands ∙ a.1)
 
 -- ---- call after call
-pub serial-session : {state store : List ℕ} {calls : List Call} {replies : List Reply} → length state ≡ stateLength → Serial state store calls replies → Session (readerOf state) store calls replies
-serial-session e no-calls = none
-serial-session {state} {store} e (call {words = words} {after = after} {c = c} {last = last} {answer = answer} {calls = calls} {replies = replies} l f rest) =
-    let w : FedWords state store c.run last answer words after = words-told e f in
-    let feeds : Feeds (readerOf state) store c.run c.last w.fed after = subst (λ (b : Bool). Feeds (readerOf state) store c.run b w.fed after) l w.feeds in
-    let on : Session w.fed.reader after calls replies = subst (λ (r : Reader). Session r after calls replies) (state-told w) (serial-session (ap length w.hands) rest) in
-    subst (λ (x : Reply). Session (readerOf state) store (c ∷ calls) (x ∷ replies)) (sym (answer-told w)) (one feeds on)
+pub serial_session : {state store : List ℕ} {calls : List Call} {replies : List Reply} → length state ≡ state_length → Serial state store calls replies → Session (reader_of state) store calls replies
+serial_session e no_calls = none
+serial_session {state} {store} e (call {words = words} {after = after} {c = c} {last = last} {answer = answer} {calls = calls} {replies = replies} l f rest) =
+    let w : FedWords state store c.run last answer words after = words_told e f in
+    let feeds : Feeds (reader_of state) store c.run c.last w.fed after = subst (λ (b : Bool). Feeds (reader_of state) store c.run b w.fed after) l w.feeds in
+    let on : Session w.fed.reader after calls replies = subst (λ (r : Reader). Session r after calls replies) (state_told w) (serial_session (ap length w.hands) rest) in
+    subst (λ (x : Reply). Session (reader_of state) store (c ∷ calls) (x ∷ replies)) (sym (answer_told w)) (one feeds on)
 
 -- from three zeros the reply to each call is the first verdict given before it, else what is owed on the runs up to it, joined
-pub serial : (store : List ℕ) {calls : List Call} {replies : List Reply} → length store ≡ fileLimit → Serial freshWords store calls replies
-    → (k : ℕ) → k < length calls → Follows (firstVerdict (take k replies)) (joined (take (suc k) calls)) (get_or calls k noCall).last (get_or replies k More)
-serial store full s = session store full (serial-session refl s)
+pub serial : (store : List ℕ) {calls : List Call} {replies : List Reply} → length store ≡ file_limit → Serial fresh_words store calls replies
+    → (k : ℕ) → k < length calls → Follows (first_verdict (take k replies)) (joined (take (suc k) calls)) (get_or calls k no_call).last (get_or replies k More)
+serial store full s = session store full (serial_session refl s)
 
 -- and up to the sender's last word, and with it, what is owed on all runs so far, also where the verdict was given before
-pub serial-owed : (store : List ℕ) {calls : List Call} {replies : List Reply} → length store ≡ fileLimit → Serial freshWords store calls replies
-    → (k : ℕ) → k < length calls → ((i : ℕ) → i < k → (get_or calls i noCall).last ≡ false)
-    → Owed (joined (take (suc k) calls)) (get_or calls k noCall).last (get_or replies k More)
-serial-owed store full s = session-owed store full (serial-session refl s)
+pub serial_owed : (store : List ℕ) {calls : List Call} {replies : List Reply} → length store ≡ file_limit → Serial fresh_words store calls replies
+    → (k : ℕ) → k < length calls → ((i : ℕ) → i < k → (get_or calls i no_call).last ≡ false)
+    → Owed (joined (take (suc k) calls)) (get_or calls k no_call).last (get_or replies k More)
+serial_owed store full s = session_owed store full (serial_session refl s)
 
 -- ---- the numbers of a reader's refusals
-small-told : {state store run : List ℕ} {last answer : ℕ} {words after : List ℕ} (w : FedWords state store run last answer words after) → SmallReply (readerOf state).said
+small_told : {state store run : List ℕ} {last answer : ℕ} {words after : List ℕ} (w : FedWords state store run last answer words after) → SmallReply (reader_of state).said
     → SmallReply w.fed.reply × SmallReply w.fed.reader.said
-small-told {state} {store} {run} {last} {after = after} w s = feeds-all SmallReply (λ v small. small) tt (readerOf state) store run (is_last last) w.fed after s w.feeds
+small_told {state} {store} {run} {last} {after = after} w s = feeds_all SmallReply (λ v small. small) tt (reader_of state) store run (is_last last) w.fed after s w.feeds
 
-small-from : {state store : List ℕ} {calls : List Call} {replies : List Reply} → length state ≡ stateLength → SmallReply (readerOf state).said → Serial state store calls replies
+small_from : {state store : List ℕ} {calls : List Call} {replies : List Reply} → length state ≡ state_length → SmallReply (reader_of state).said → Serial state store calls replies
     → (k : ℕ) → SmallReply (get_or replies k More)
-small-from e s no-calls k = tt
-small-from e s (call l f rest) zero =
-    let w = words-told e f in
-    subst SmallReply (sym (answer-told w)) (small-told w s).0
-small-from e s (call l f rest) (suc k) =
-    let w = words-told e f in
-    small-from (ap length w.hands) (subst SmallReply (ap (λ (r : Reader). r.said) (sym (state-told w))) (small-told w s).1) rest k
+small_from e s no_calls k = tt
+small_from e s (call l f rest) zero =
+    let w = words_told e f in
+    subst SmallReply (sym (answer_told w)) (small_told w s).0
+small_from e s (call l f rest) (suc k) =
+    let w = words_told e f in
+    small_from (ap length w.hands) (subst SmallReply (ap (λ (r : Reader). r.said) (sym (state_told w))) (small_told w s).1) rest k
 
 -- from three zeros they are 1 to 11, at a place of at most 8,136
-pub serial-small : (store : List ℕ) {calls : List Call} {replies : List Reply} → Serial freshWords store calls replies → (k : ℕ) → SmallReply (get_or replies k More)
-serial-small store s = small-from refl tt s
+pub serial_small : (store : List ℕ) {calls : List Call} {replies : List Reply} → Serial fresh_words store calls replies → (k : ℕ) → SmallReply (get_or replies k More)
+serial_small store s = small_from refl tt s
 
 -- ---- determined
-pub feed-determined : (state store run : List ℕ) (last : ℕ) {i j : ℕ} {words words' after after' : List ℕ} → FeedsWords state store run last i words after
+pub feed_determined : (state store run : List ℕ) (last : ℕ) {i j : ℕ} {words words' after after' : List ℕ} → FeedsWords state store run last i words after
     → FeedsWords state store run last j words' after' → (i ≡ j) × (words ≡ words') × (after ≡ after')
-feed-determined state store run last {i} {j} {words} {words'} {after} {after'} f g = by_length (eqb (length state) stateLength) f.by g.by
+feed_determined state store run last {i} {j} {words} {words'} {after} {after'} f g = by_length (eqb (length state) state_length) f.by g.by
   where
     by_length : (b : Bool) → WordsBy b state store run last i words after → WordsBy b state store run last j words' after' → (i ≡ j) × (words ≡ words') × (after ≡ after')
     by_length false x y = (x.0 ∙ sym y.0, x.1 ∙ sym y.1, x.2 ∙ sym y.2)
     by_length true x y =
-        let u = feeds-unique (readerOf state) store run (is_last last) x.feeds y.feeds in (
-          x.says ∙ ap (λ (d : Fed). packReply d.reply) u.0 ∙ sym y.says,
+        let u = feeds_unique (reader_of state) store run (is_last last) x.feeds y.feeds in (
+          x.says ∙ ap (λ (d : Fed). pack_reply d.reply) u.0 ∙ sym y.says,
           x.hands ∙ ap (λ (d : Fed). words_of d.reader) u.0 ∙ sym y.hands,
           u.1,
         )

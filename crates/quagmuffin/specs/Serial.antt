@@ -6,18 +6,18 @@ use Rattle.stream.specs.declared.Reader.{Reader}
 use Rattle.stream.specs.declared.Fed.{Fed}
 use Rattle.stream.specs.Feeding.{reader, Feeds}
 use Rattle.stream.specs.Sessions.{Call}
-use Rattle.quagmuffin.specs.Packed.{pack, packVerdict, unpackVerdict, Fits, SmallVerdict}
+use Rattle.quagmuffin.specs.Packed.{pack, pack_verdict, unpack_verdict, Fits, SmallVerdict}
 
-abbrev pub stateLength : ℕ
-stateLength = 3
+abbrev pub state_length : ℕ
+state_length = 3
 
 -- 0 is "more": an accepted file has a slice at least, so its number is not 0
-abbrev pub packReply : Reply → ℕ
-packReply More = 0
-packReply (Given v) = packVerdict v
+abbrev pub pack_reply : Reply → ℕ
+pack_reply More = 0
+pack_reply (Given v) = pack_verdict v
 
-abbrev pub unpackReply : ℕ → Reply
-unpackReply i = cond (eqb i 0) More (Given (unpackVerdict i))
+abbrev pub unpack_reply : ℕ → Reply
+unpack_reply i = cond (eqb i 0) More (Given (unpack_verdict i))
 
 abbrev pub FitsReply : Reply → Type 0
 FitsReply More = Unit {0}
@@ -28,11 +28,11 @@ abbrev pub SmallReply : Reply → Type 0
 SmallReply More = Unit {0}
 SmallReply (Given v) = SmallVerdict v
 
-abbrev pub readerOf : List ℕ → Reader
-readerOf words = reader (get_or words 0 0) (get_or words 1 0) (unpackReply (get_or words 2 0))
+abbrev pub reader_of : List ℕ → Reader
+reader_of words = reader (get_or words 0 0) (get_or words 1 0) (unpack_reply (get_or words 2 0))
 
 abbrev pub words_of : Reader → List ℕ
-words_of r = r.len ∷ r.passed ∷ packReply r.said ∷ []
+words_of r = r.len ∷ r.passed ∷ pack_reply r.said ∷ []
 
 -- any byte but 0 says that "there is no more"
 abbrev pub is_last : ℕ → Bool
@@ -41,8 +41,8 @@ is_last last = not (eqb last 0)
 -- the call on a state of three words
 pub record FedWords (state store run : List ℕ) (last answer : ℕ) (words after : List ℕ) : Type 0 where
   pub fed : Fed
-  pub feeds : Feeds (readerOf state) store run (is_last last) fed after
-  pub says : answer ≡ packReply fed.reply
+  pub feeds : Feeds (reader_of state) store run (is_last last) fed after
+  pub says : answer ≡ pack_reply fed.reply
   pub hands : words ≡ words_of fed.reader
 
 -- by whether the state has its length: another is 10, and nothing moves
@@ -51,14 +51,14 @@ WordsBy false state store run last answer words after = (answer ≡ pack 10 0) �
 WordsBy true state store run last answer words after = FedWords state store run last answer words after
 
 pub record FeedsWords (state store run : List ℕ) (last answer : ℕ) (words after : List ℕ) : Type 0 where
-  pub by : WordsBy (eqb (length state) stateLength) state store run last answer words after
+  pub by : WordsBy (eqb (length state) state_length) state store run last answer words after
 
 -- calls one after another, each given the words and the store that the last one left, and what their answers say
 pub data Serial : List ℕ → List ℕ → List Call → List Reply → Type 0 where
-  no-calls : {state store : List ℕ} → Serial state store [] []
+  no_calls : {state store : List ℕ} → Serial state store [] []
   call : {state store words after : List ℕ} {c : Call} {last answer : ℕ} {calls : List Call} {replies : List Reply} → is_last last ≡ c.last
-      → FeedsWords state store c.run last answer words after → Serial words after calls replies → Serial state store (c ∷ calls) (unpackReply answer ∷ replies)
+      → FeedsWords state store c.run last answer words after → Serial words after calls replies → Serial state store (c ∷ calls) (unpack_reply answer ∷ replies)
 
 -- a fresh reader
-abbrev pub freshWords : List ℕ
-freshWords = 0 ∷ 0 ∷ 0 ∷ []
+abbrev pub fresh_words : List ℕ
+fresh_words = 0 ∷ 0 ∷ 0 ∷ []

@@ -1,15 +1,15 @@
 // The exported library: each call takes slices and numbers, and answers one number, the answer of the call below it, packed.
 ghost use Rattle.std.specs.Prelude.{◌≡◌, ◌<◌, ◌^◌, length};
 ghost use Rattle.lent.specs.Lent.{was, left};
-ghost use Rattle.slicefile.specs.Format.{sliceTag, bodyLength};
+ghost use Rattle.slicefile.specs.Format.{slice_tag, body_length};
 ghost use Rattle.column.specs.Judge.{Judged};
 ghost use Rattle.calls.specs.Calls.{PowersUp};
 ghost use Rattle.simulator.specs.Running.{Settles, Clocks};
-ghost use Rattle.editlist.specs.Listed.{editsIn};
+ghost use Rattle.editlist.specs.Listed.{edits_in};
 ghost use Rattle.edits.specs.Edits.{Edits};
 ghost use Rattle.quagmuffin.specs.Bodies.{ReadInto, RecordRead, RecordWritten};
-ghost use Rattle.quagmuffin.specs.Packed.{pack, packAnswer, packVerdict, unpackVerdict, Fits, SmallAnswer, Packed, Answered};
-ghost use Rattle.quagmuffin.specs.Serial.{stateLength, packReply, unpackReply, FitsReply, readerOf, words_of, FeedsWords};
+ghost use Rattle.quagmuffin.specs.Packed.{pack, pack_answer, pack_verdict, unpack_verdict, Fits, SmallAnswer, Packed, Answered};
+ghost use Rattle.quagmuffin.specs.Serial.{state_length, pack_reply, unpack_reply, FitsReply, reader_of, words_of, FeedsWords};
 
 use column::Verdict;
 use editlist::{Edit, LIST_WORDS};
@@ -30,7 +30,7 @@ fn pack_number(number: usize, above: usize) -> u64
 // A call's answer.
 pub fn pack_answer(answer: Answer) -> u64
     requires { SmallAnswer answer }
-    ensures { result ≡ packAnswer answer }
+    ensures { result ≡ pack_answer answer }
 {
     match answer {
         Answer::Refused { number, place } => pack_number(number, place),
@@ -41,7 +41,7 @@ pub fn pack_answer(answer: Answer) -> u64
 // The judge's answer.
 fn pack_verdict(verdict: Verdict) -> u64
     requires { Fits verdict }
-    ensures { result ≡ packVerdict verdict }
+    ensures { result ≡ pack_verdict verdict }
 {
     match verdict {
         Verdict::Refused { number, place } => pack_number(number, place),
@@ -52,7 +52,7 @@ fn pack_verdict(verdict: Verdict) -> u64
 // Judges any bytes.
 #[unsafe(no_mangle)]
 pub extern "C" fn qm_judge(file: &[u8]) -> u64
-    ensures { Packed packVerdict (Judged (was file)) result }
+    ensures { Packed pack_verdict (Judged (was file)) result }
 {
     pack_verdict(column::judge(file))
 }
@@ -103,7 +103,7 @@ fn edit_listed(
     words: [u64; LIST_WORDS],
     count: usize,
 ) -> u64
-    ensures { Answered (Edits file contents flops inputs values (editsIn words count)) result }
+    ensures { Answered (Edits file contents flops inputs values (edits_in words count)) result }
 {
     pack_answer(edits::edit(file, contents, flops, inputs, values, words, count))
 }
@@ -126,7 +126,7 @@ pub extern "C" fn qm_edit(
 
 // Reads a record, and fills a body with its fields.
 fn read_body(bytes: &[u8], n: usize, m: usize, body: &mut [u8]) -> Answer
-    requires { length body.old ≡ bodyLength sliceTag }
+    requires { length body.old ≡ body_length slice_tag }
     ensures { ReadInto (was bytes) n m (was body) (left body) result }
 {
     let reading = recordcalls::read_record(bytes, n, m);
@@ -163,7 +163,7 @@ pub extern "C" fn qm_write_record(body: &[u8], n: usize, m: usize, part: &mut [u
 
 // The verdict that a number was packed from.
 fn unpack_verdict(number: u64) -> Verdict
-    ensures { result ≡ unpackVerdict number }
+    ensures { result ≡ unpack_verdict number }
 {
     if number % 256 == 0 {
         return Verdict::Accepted {
@@ -180,7 +180,7 @@ fn unpack_verdict(number: u64) -> Verdict
 // A reader's reply: 0 is "more".
 fn pack_reply(reply: Reply) -> u64
     requires { FitsReply reply }
-    ensures { result ≡ packReply reply }
+    ensures { result ≡ pack_reply reply }
 {
     match reply {
         Reply::More => 0,
@@ -190,7 +190,7 @@ fn pack_reply(reply: Reply) -> u64
 
 // The reply that a number was packed from.
 fn unpack_reply(number: u64) -> Reply
-    ensures { result ≡ unpackReply number }
+    ensures { result ≡ unpack_reply number }
 {
     if number == 0 {
         return Reply::More;
@@ -200,8 +200,8 @@ fn unpack_reply(number: u64) -> Reply
 
 // The reader of a state.
 fn load_reader(state: &[u64]) -> Reader
-    requires { length state.now ≡ stateLength }
-    ensures { result ≡ readerOf (was state) }
+    requires { length state.now ≡ state_length }
+    ensures { result ≡ reader_of (was state) }
 {
     Reader {
         len: state[0] as usize,
@@ -212,7 +212,7 @@ fn load_reader(state: &[u64]) -> Reader
 
 // Stores a reader in a state.
 fn store_reader(state: &mut [u64], reader: Reader)
-    requires { (length state.old ≡ stateLength) × FitsReply reader.said }
+    requires { (length state.old ≡ state_length) × FitsReply reader.said }
     ensures { left state ≡ words_of reader }
 {
     let said = reader.said;

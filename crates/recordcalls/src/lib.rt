@@ -1,7 +1,7 @@
 // The record calls: one slice record read from its bytes, and written into a lent part of a file.
 ghost use Rattle.std.specs.Prelude.{◌≡◌, length};
 ghost use Rattle.lent.specs.Lent.{was, left};
-ghost use Rattle.recordcalls.specs.Calls.{zeroRecord, recordRefusal, writeRefusal, answer_of, readRecord, written};
+ghost use Rattle.recordcalls.specs.Calls.{zero_record, record_refusal, write_refusal, answer_of, read_record, written};
 
 use slicefile::{Answer, HEAD, NUMBER, PIN_COUNT, SLICE_RECORD, SLICE_TAG};
 use slicerecord::Record;
@@ -15,7 +15,7 @@ pub struct Reading {
 
 // The record that stands where none was read.
 fn zero_record() -> Record
-    ensures { result ≡ zeroRecord }
+    ensures { result ≡ zero_record }
 {
     Record {
         number: 0,
@@ -37,7 +37,7 @@ fn zero_record() -> Record
 
 // Rules 2 to 7 on a record, any number below n being due; 0 where none is broken.
 fn record_refusal(n: usize, m: usize, s: &[u8]) -> usize
-    ensures { result ≡ recordRefusal n m (was s) }
+    ensures { result ≡ record_refusal n m (was s) }
 {
     let h = framing::header_refusal(SLICE_TAG, s);
     if h != 0 {
@@ -53,7 +53,7 @@ fn record_refusal(n: usize, m: usize, s: &[u8]) -> usize
 
 // The reader's refusal: the number, place 0 and no record.
 fn no_record(number: usize) -> Reading
-    ensures { (result.answer ≡ Answer.Refused number 0) × (result.slice ≡ zeroRecord) }
+    ensures { (result.answer ≡ Answer.Refused number 0) × (result.slice ≡ zero_record) }
 {
     let slice = zero_record();
     Reading {
@@ -64,7 +64,7 @@ fn no_record(number: usize) -> Reading
 
 // Reads one slice record, of 127 bytes, of a file of n slices and m outside inputs.
 pub fn read_record(bytes: &[u8], n: usize, m: usize) -> Reading
-    ensures { result ≡ readRecord (was bytes) n m }
+    ensures { result ≡ read_record (was bytes) n m }
 {
     if bytes.len() != SLICE_RECORD {
         return no_record(10);
@@ -85,7 +85,7 @@ pub fn read_record(bytes: &[u8], n: usize, m: usize) -> Reading
 
 // Writes one slice record into the first 127 bytes of a part of a file of n slices and m outside inputs. A refusal writes nothing.
 pub fn write_record(slice: Record, n: usize, m: usize, part: &mut [u8]) -> Answer
-    ensures { (result ≡ answer_of (writeRefusal slice n m (length (was part)))) × (left part ≡ written slice n m (was part)) }
+    ensures { (result ≡ answer_of (write_refusal slice n m (length (was part)))) × (left part ≡ written slice n m (was part)) }
 {
     if part.len() < SLICE_RECORD {
         return Answer::Refused {

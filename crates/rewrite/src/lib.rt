@@ -1,10 +1,10 @@
 // A file read and written again, record by record: the writer is lent the part after what is written already.
 ghost use Rattle.std.specs.Prelude.{◌≡◌, ◌++◌, ◌≤◌, length, drop};
 ghost use Rattle.lent.specs.Lent.{was, left};
-ghost use Rattle.slicefile.specs.Format.{sliceTag, recordLength};
-ghost use Rattle.recordcalls.specs.Calls.{readRefusal};
+ghost use Rattle.slicefile.specs.Format.{slice_tag, record_length};
+ghost use Rattle.recordcalls.specs.Calls.{read_refusal};
 ghost use Rattle.column.specs.Check.{IsSound};
-ghost use Rattle.rewrite.specs.Rewrite.{leftBy, rewritten};
+ghost use Rattle.rewrite.specs.Rewrite.{left_by, rewritten};
 
 use column::Checked;
 use slicefile::{Answer, END, SIZE_BODY, SIZE_RECORD, SIZE_TAG, SLICE_RECORD};
@@ -16,8 +16,8 @@ const LENGTH: u8 = SIZE_BODY as u8;
 
 // Reads a slice record and writes it at the start of a part.
 fn put_slice(bytes: &[u8], n: usize, m: usize, part: &mut [u8])
-    requires { (readRefusal bytes.now n m ≡ 0) × (recordLength sliceTag ≤ length part.old) }
-    ensures { left part ≡ was bytes ++ drop (recordLength sliceTag) (was part) }
+    requires { (read_refusal bytes.now n m ≡ 0) × (record_length slice_tag ≤ length part.old) }
+    ensures { left part ≡ was bytes ++ drop (record_length slice_tag) (was part) }
 {
     let reading = recordcalls::read_record(bytes, n, m);
     let slice = reading.slice;
@@ -42,7 +42,7 @@ fn put_records(file: &[u8], n: usize, m: usize, out: &mut [u8])
 
 // Rewrites a file into a lent buffer of its length. A refusal writes nothing.
 pub fn rewrite_file(file: &[u8], out: &mut [u8]) -> Answer
-    ensures { (result ≡ rewritten (was file) (was out)) × (left out ≡ leftBy result (was file) (was out)) }
+    ensures { (result ≡ rewritten (was file) (was out)) × (left out ≡ left_by result (was file) (was out)) }
 {
     match column::check_file(file) {
         Checked::Bad { number, place } => Answer::Refused { number, place },

@@ -6,23 +6,23 @@ use native.Mathlib.Omega.{arith}
 use Rattle.rules.specs.Rules.{given, ◌orElse◌}
 
 -- where no refusal is given, neither part gives one
-pub orElse-left : (a b : ℕ) → a or_else b ≡ 0 → a ≡ 0
-orElse-left zero b e = refl
-orElse-left (suc a) b e = absurd (omega arith)
+pub or_else_left : (a b : ℕ) → a or_else b ≡ 0 → a ≡ 0
+or_else_left zero b e = refl
+or_else_left (suc a) b e = absurd (omega arith)
 
-pub orElse-right : (a b : ℕ) → a or_else b ≡ 0 → b ≡ 0
-orElse-right zero b e = e
-orElse-right (suc a) b e = absurd (omega arith)
+pub or_else_right : (a b : ℕ) → a or_else b ≡ 0 → b ≡ 0
+or_else_right zero b e = e
+or_else_right (suc a) b e = absurd (omega arith)
 
 -- the first refusal that is given
-pub orElse-first : (a b : ℕ) → (a ≡ 0 → ⊥) → a ≡ a or_else b
-orElse-first zero b ne = absurd (ne refl)
-orElse-first (suc a) b ne = refl
+pub or_else_first : (a b : ℕ) → (a ≡ 0 → ⊥) → a ≡ a or_else b
+or_else_first zero b ne = absurd (ne refl)
+or_else_first (suc a) b ne = refl
 
-pub orElse-second : (a b : ℕ) → a ≡ 0 → b ≡ a or_else b
-orElse-second zero b e = refl
-orElse-second (suc a) b e = absurd (omega arith)
+pub or_else_second : (a b : ℕ) → a ≡ 0 → b ≡ a or_else b
+or_else_second zero b e = refl
+or_else_second (suc a) b e = absurd (omega arith)
 
-pub given-none : (k : ℕ) (t : Bool) → given (suc k) t ≡ 0 → t ≡ false
-given-none k true e = absurd (omega arith)
-given-none k false e = refl
+pub given_none : (k : ℕ) (t : Bool) → given (suc k) t ≡ 0 → t ≡ false
+given_none k true e = absurd (omega arith)
+given_none k false e = refl

@@ -1,8 +1,8 @@
 -- Rules 4 to 7: what is wrong with a slice's body, in the paper's order.
 use Rattle.std.specs.Prelude.{ℕ, zero, suc, ◌+◌, ◌%◌, ◌^◌, Bool, true, false, not, ◌&&◌, ◌||◌, List, leb, ltb, eqb}
-use Rattle.slicefile.specs.Lists.{anyBelow}
-use Rattle.slicefile.specs.Format.{numberByte, kind, mode, shiftData, contentsWord, carryData, carryStart, muxChoice, mainInput, secondInput, setResetUsed, pinCount, pinCode}
-use Rattle.slicefile.specs.Driver.{driverOf}
+use Rattle.slicefile.specs.Lists.{any_below}
+use Rattle.slicefile.specs.Format.{number_byte, kind, mode, shift_data, contents_word, carry_data, carry_start, mux_choice, main_input, second_input, set_reset_used, pin_count, pin_code}
+use Rattle.slicefile.specs.Driver.{driver_of}
 use Rattle.slicefile.specs.declared.Decoded.{Decoded}
 use Rattle.slicefile.specs.declared.Decoded.TheVariants.{Driven, Missing}
 
@@ -18,49 +18,49 @@ zero or_else b = b
 (suc a) or_else b = suc a
 
 -- rule 5 for a letter, and for a slice: "a choice outside its list"
-unfoldable pub letterChoice : List ℕ → ℕ → Bool
-letterChoice body l =
+unfoldable pub letter_choice : List ℕ → ℕ → Bool
+letter_choice body l =
     ltb 2 (mode body l)
-    || ltb 1 (shiftData body l)
-    || ltb 1 (carryData body l)
-    || ltb 4 (muxChoice body l)
-    || ltb 5 (mainInput body l)
-    || ltb 1 (secondInput body l)
+    || ltb 1 (shift_data body l)
+    || ltb 1 (carry_data body l)
+    || ltb 4 (mux_choice body l)
+    || ltb 5 (main_input body l)
+    || ltb 1 (second_input body l)
 
-unfoldable pub badChoice : List ℕ → Bool
-badChoice body = ltb 1 (kind body) || ltb 3 (carryStart body) || ltb 1 (setResetUsed body) || anyBelow 4 (letterChoice body)
+unfoldable pub bad_choice : List ℕ → Bool
+bad_choice body = ltb 1 (kind body) || ltb 3 (carry_start body) || ltb 1 (set_reset_used body) || any_below 4 (letter_choice body)
 
-abbrev pub modeIs : List ℕ → ℕ → ℕ → Bool
-modeIs body k l = eqb (mode body l) k
+abbrev pub mode_is : List ℕ → ℕ → ℕ → Bool
+mode_is body k l = eqb (mode body l) k
 
 -- rule 6 for a letter: "SLICEL with a mode not 0"; "mode 1 in A-C without D"; "cascade at D, or where the letter or the next isn't mode 2";
 -- "mode 2 with bits 32-63 set"
-unfoldable pub letterCombination : List ℕ → ℕ → Bool
-letterCombination body l =
-    (eqb (kind body) 0 && not (modeIs body 0 l))
-    || (modeIs body 1 l && not (modeIs body 1 3))
-    || (eqb (shiftData body l) 1 && (eqb l 3 || not (modeIs body 2 l) || not (modeIs body 2 (l + 1))))
-    || (modeIs body 2 l && leb (2 ^ 32) (contentsWord body l))
+unfoldable pub letter_combination : List ℕ → ℕ → Bool
+letter_combination body l =
+    (eqb (kind body) 0 && not (mode_is body 0 l))
+    || (mode_is body 1 l && not (mode_is body 1 3))
+    || (eqb (shift_data body l) 1 && (eqb l 3 || not (mode_is body 2 l) || not (mode_is body 2 (l + 1))))
+    || (mode_is body 2 l && leb (2 ^ 32) (contents_word body l))
 
 -- rule 6 for the slice of a number: those, "modes 1 and 2 in one slice" and "carry start 3 in slice 0"
-unfoldable pub badCombination : ℕ → List ℕ → Bool
-badCombination number body =
-    anyBelow 4 (letterCombination body)
-    || (anyBelow 4 (modeIs body 1) && anyBelow 4 (modeIs body 2))
-    || (eqb number 0 && eqb (carryStart body) 3)
+unfoldable pub bad_combination : ℕ → List ℕ → Bool
+bad_combination number body =
+    any_below 4 (letter_combination body)
+    || (any_below 4 (mode_is body 1) && any_below 4 (mode_is body 2))
+    || (eqb number 0 && eqb (carry_start body) 3)
 
 abbrev pub missing : Decoded → Bool
 missing (Driven d) = false
 missing Missing = true
 
 -- rule 7: "a driver that doesn't exist"
-unfoldable pub badDriver : ℕ → ℕ → List ℕ → Bool
-badDriver n m body = anyBelow pinCount (λ p. missing (driverOf (pinCode body p) n m))
+unfoldable pub bad_driver : ℕ → ℕ → List ℕ → Bool
+bad_driver n m body = any_below pin_count (λ p. missing (driver_of (pin_code body p) n m))
 
 -- the body of the slice of a number, of n slices and m outside inputs: "then 4, 5, 6, 7". The number byte holds the number modulo 256
-unfoldable pub bodyRefusal : ℕ → ℕ → ℕ → List ℕ → ℕ
-bodyRefusal n m number body =
-    given 4 (not (eqb (numberByte body) (number % 256)))
-    or_else given 5 (badChoice body)
-    or_else given 6 (badCombination number body)
-    or_else given 7 (badDriver n m body)
+unfoldable pub body_refusal : ℕ → ℕ → ℕ → List ℕ → ℕ
+body_refusal n m number body =
+    given 4 (not (eqb (number_byte body) (number % 256)))
+    or_else given 5 (bad_choice body)
+    or_else given 6 (bad_combination number body)
+    or_else given 7 (bad_driver n m body)

@@ -1,11 +1,11 @@
 // The slice of the 7 series as gates: what each of its 32 signals reads, from the body of its record, as the signal's row in the gate table.
 ghost use Rattle.std.specs.Prelude.{◌≡◌, [], ◌∷◌, ◌*◌, ◌<◌, ◌≤◌, eqb};
 ghost use Rattle.lent.specs.Lent.{was};
-ghost use Rattle.netlist.specs.Table.{sliceSignals, code_of, gateNumbers};
+ghost use Rattle.netlist.specs.Table.{slice_signals, code_of, gate_numbers};
 ghost use Rattle.netlist.specs.declared.Gate.TheVariants.{Same};
-ghost use Rattle.slicefile.specs.Format.{HoldsSlice, mode, carryStart, muxChoice, bypassPin};
-ghost use Rattle.sources.specs.Sources.{columnLimit, own, pinSource, HasPins};
-ghost use Rattle.series7.specs.Signals.{muxSignal, mc31Gate, startSource, carryIn, carrySource, byBypass, wideGate, familyOf, familyGate, sliceGate};
+ghost use Rattle.slicefile.specs.Format.{HoldsSlice, mode, carry_start, mux_choice, bypass_pin};
+ghost use Rattle.sources.specs.Sources.{column_limit, own, pin_source, HasPins};
+ghost use Rattle.series7.specs.Signals.{mux_signal, mc31_gate, start_source, carry_in, carry_source, by_bypass, wide_gate, family_of, family_gate, slice_gate};
 
 use netlist::{ROW, Source};
 use slicefile::{BYPASS_PIN, CARRY_DATA, CARRY_START, MODE, MUX, PIN_COUNT, TABLE_PINS};
@@ -54,7 +54,7 @@ fn row_of(head: usize, a: u16, b: u16, c: u16) -> [u16; ROW]
 // Where a slice's carry chain starts.
 fn start_number(n: usize, m: usize, s: usize, body: &[u8], pins: &[u16; PIN_COUNT]) -> u16
     requires { HasPins n m s body.now pins.now }
-    ensures { result ≡ code_of n (startSource (carryStart (was body)) s (pinSource n m (was body) (bypassPin 0))) }
+    ensures { result ≡ code_of n (start_source (carry_start (was body)) s (pin_source n m (was body) (bypass_pin 0))) }
 {
     let choice = body[CARRY_START];
     if choice == 0 {
@@ -75,7 +75,7 @@ fn start_number(n: usize, m: usize, s: usize, body: &[u8], pins: &[u16; PIN_COUN
 // The carry coming into a letter.
 fn carry_in(n: usize, m: usize, s: usize, body: &[u8], pins: &[u16; PIN_COUNT], l: usize) -> u16
     requires { HasPins n m s body.now pins.now × (l < 4) }
-    ensures { result ≡ code_of n (carryIn n m s (was body) l) }
+    ensures { result ≡ code_of n (carry_in n m s (was body) l) }
 {
     if l == 0 {
         return start_number(n, m, s, body, pins);
@@ -86,7 +86,7 @@ fn carry_in(n: usize, m: usize, s: usize, body: &[u8], pins: &[u16; PIN_COUNT], 
 // A letter's carry data.
 fn carry_data(n: usize, m: usize, s: usize, body: &[u8], pins: &[u16; PIN_COUNT], l: usize) -> u16
     requires { HasPins n m s body.now pins.now × (l < 4) }
-    ensures { result ≡ code_of n (carrySource n m s (was body) l) }
+    ensures { result ≡ code_of n (carry_source n m s (was body) l) }
 {
     if body[CARRY_DATA + l] == 0 {
         return sources::own_number(s, O5_SIGNAL + l);
@@ -103,7 +103,7 @@ fn o6_row(
     l: usize,
 ) -> [u16; ROW]
     requires { HasPins n m s body.now pins.now × (l < 4) }
-    ensures { result ≡ gateNumbers n (familyGate n m s (was body) Family.O6 l) }
+    ensures { result ≡ gate_numbers n (family_gate n m s (was body) Family.O6 l) }
 {
     let table = (4 * s + l) as u16;
     let first = TABLE_PINS * l;
@@ -128,7 +128,7 @@ fn o5_row(
     l: usize,
 ) -> [u16; ROW]
     requires { HasPins n m s body.now pins.now × (l < 4) }
-    ensures { result ≡ gateNumbers n (familyGate n m s (was body) Family.O5 l) }
+    ensures { result ≡ gate_numbers n (family_gate n m s (was body) Family.O5 l) }
 {
     let table = 4 * s + l;
     if body[MODE + l] == 2 {
@@ -144,8 +144,8 @@ fn o5_row(
 }
 
 fn mc31_row(n: usize, s: usize, body: &[u8]) -> [u16; ROW]
-    requires { HoldsSlice body.now × (n ≤ columnLimit) × (s < n) }
-    ensures { result ≡ gateNumbers n (mc31Gate (eqb (mode (was body) 0) 2) (4 * s)) }
+    requires { HoldsSlice body.now × (n ≤ column_limit) × (s < n) }
+    ensures { result ≡ gate_numbers n (mc31_gate (eqb (mode (was body) 0) 2) (4 * s)) }
 {
     if body[MODE] == 2 {
         return [(4 * s) as u16, 1, 1, 1, 1, 1, 0];
@@ -165,8 +165,8 @@ fn by_bypass(
     other: usize,
 ) -> [u16; ROW]
     requires has_pins { HasPins n m s body.now pins.now }
-    requires l_bound { (l < 4) × (one < sliceSignals) × (other < sliceSignals) }
-    ensures { result ≡ gateNumbers n (byBypass n m s (was body) l one other) }
+    requires l_bound { (l < 4) × (one < slice_signals) × (other < slice_signals) }
+    ensures { result ≡ gate_numbers n (by_bypass n m s (was body) l one other) }
 {
     let select = pins[BYPASS_PIN + l];
     let a = sources::own_number(s, one);
@@ -184,7 +184,7 @@ fn wide_row(
     i: usize,
 ) -> [u16; ROW]
     requires { HasPins n m s body.now pins.now }
-    ensures { result ≡ gateNumbers n (wideGate n m s (was body) i) }
+    ensures { result ≡ gate_numbers n (wide_gate n m s (was body) i) }
 {
     if i == 0 {
         return by_bypass(n, m, s, body, pins, 0, 0, 1);
@@ -207,7 +207,7 @@ fn carry_row(
     l: usize,
 ) -> [u16; ROW]
     requires { HasPins n m s body.now pins.now × (l < 4) }
-    ensures { result ≡ gateNumbers n (familyGate n m s (was body) Family.Carry l) }
+    ensures { result ≡ gate_numbers n (family_gate n m s (was body) Family.Carry l) }
 {
     let select = sources::own_number(s, l);
     let one = carry_in(n, m, s, body, pins, l);
@@ -224,7 +224,7 @@ fn sum_row(
     l: usize,
 ) -> [u16; ROW]
     requires { HasPins n m s body.now pins.now × (l < 4) }
-    ensures { result ≡ gateNumbers n (familyGate n m s (was body) Family.Sum l) }
+    ensures { result ≡ gate_numbers n (family_gate n m s (was body) Family.Sum l) }
 {
     let a = sources::own_number(s, l);
     let b = carry_in(n, m, s, body, pins, l);
@@ -233,7 +233,7 @@ fn sum_row(
 
 fn mux_signal(l: usize, choice: u8) -> usize
     requires { l < 4 }
-    ensures { (result ≡ muxSignal l choice) × (result < sliceSignals) }
+    ensures { (result ≡ mux_signal l choice) × (result < slice_signals) }
 {
     if choice == 0 {
         return O5_SIGNAL + l;
@@ -251,8 +251,8 @@ fn mux_signal(l: usize, choice: u8) -> usize
 }
 
 fn mux_row(n: usize, s: usize, body: &[u8], l: usize) -> [u16; ROW]
-    requires { HoldsSlice body.now × (n ≤ columnLimit) × (s < n) × (l < 4) }
-    ensures { result ≡ gateNumbers n (Same (own s (muxSignal l (muxChoice (was body) l)))) }
+    requires { HoldsSlice body.now × (n ≤ column_limit) × (s < n) × (l < 4) }
+    ensures { result ≡ gate_numbers n (Same (own s (mux_signal l (mux_choice (was body) l)))) }
 {
     let k = mux_signal(l, body[MUX + l]);
     let a = sources::own_number(s, k);
@@ -261,7 +261,7 @@ fn mux_row(n: usize, s: usize, body: &[u8], l: usize) -> [u16; ROW]
 
 // The family of signal k of a slice.
 fn family_of(k: usize) -> Family
-    ensures { result ≡ familyOf k }
+    ensures { result ≡ family_of k }
 {
     if k < O5_SIGNAL {
         return Family::O6;
@@ -298,7 +298,7 @@ fn family_row(
     l: usize,
 ) -> [u16; ROW]
     requires { HasPins n m s body.now pins.now × (l < 4) }
-    ensures { result ≡ gateNumbers n (familyGate n m s (was body) f l) }
+    ensures { result ≡ gate_numbers n (family_gate n m s (was body) f l) }
 {
     match f {
         Family::O6 => o6_row(n, m, s, body, pins, l),
@@ -321,8 +321,8 @@ pub fn row_at(
     pins: &[u16; PIN_COUNT],
     k: usize,
 ) -> [u16; ROW]
-    requires { HasPins n m s body.now pins.now × (k < sliceSignals) }
-    ensures { result ≡ gateNumbers n (sliceGate n m s (was body) k) }
+    requires { HasPins n m s body.now pins.now × (k < slice_signals) }
+    ensures { result ≡ gate_numbers n (slice_gate n m s (was body) k) }
 {
     family_row(n, m, s, body, pins, family_of(k), k % 4)
 }

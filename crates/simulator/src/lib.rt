@@ -1,9 +1,9 @@
 // The calls on a slice file and lent buffers that run it: settle and clock.
 ghost use Rattle.std.specs.Prelude.{◌≡◌, ◌*◌, length};
 ghost use Rattle.lent.specs.Lent.{was, left};
-ghost use Rattle.netlist.specs.Table.{signalCount, wireCount};
+ghost use Rattle.netlist.specs.Table.{signal_count, wire_count};
 ghost use Rattle.evaluation.specs.Numbers.{Bits};
-ghost use Rattle.column.specs.Clock.{stateWas, stateLeft};
+ghost use Rattle.column.specs.Clock.{state_was, state_left};
 ghost use Rattle.plan.specs.Plan.{Runnable};
 ghost use Rattle.simulator.specs.Running.{SettlePlanned, ClockPlanned, Clocked, Settles, Clocks};
 
@@ -23,8 +23,8 @@ fn settle_planned(
     values: &mut [u8],
     wires: &mut [u8],
 ) -> Answer
-    requires { Runnable n m plan.now × (length wires.old ≡ wireCount n m) × Bits wires.old }
-    ensures { SettlePlanned (was plan) n m (stateWas contents flops) (was inputs) (was values) (left values) result }
+    requires { Runnable n m plan.now × (length wires.old ≡ wire_count n m) × Bits wires.old }
+    ensures { SettlePlanned (was plan) n m (state_was contents flops) (was inputs) (was values) (left values) result }
 {
     let edges = plan::edges(plan, n);
     let number = buffers::settle_refusal(edges, n, m, contents, flops, inputs, values);
@@ -76,10 +76,10 @@ pub fn clock_by(
     values: &mut [u8],
     wires: &mut [u8],
 )
-    requires runnable { Runnable n (length inputs.now) plan.now × (length wires.old ≡ wireCount n (length inputs.now)) }
-    requires contents_len { (length contents.old ≡ 4 * n) × (length flops.old ≡ n) × (length values.old ≡ signalCount n) }
+    requires runnable { Runnable n (length inputs.now) plan.now × (length wires.old ≡ wire_count n (length inputs.now)) }
+    requires contents_len { (length contents.old ≡ 4 * n) × (length flops.old ≡ n) × (length values.old ≡ signal_count n) }
     requires bits { Bits inputs.now × Bits wires.old }
-    ensures { Clocked (was plan) n (stateWas contents flops) (stateLeft contents flops) (was inputs) (left values) (left wires) }
+    ensures { Clocked (was plan) n (state_was contents flops) (state_left contents flops) (was inputs) (left values) (left wires) }
 {
     let table = plan::table(plan, n);
     let order = plan::order(plan, n);
@@ -99,8 +99,8 @@ fn clock_planned(
     values: &mut [u8],
     wires: &mut [u8],
 ) -> Answer
-    requires { Runnable n m plan.now × (length wires.old ≡ wireCount n m) × Bits wires.old }
-    ensures { ClockPlanned (was plan) n m (stateWas contents flops) (stateLeft contents flops) (was inputs) (was values) (left values) result }
+    requires { Runnable n m plan.now × (length wires.old ≡ wire_count n m) × Bits wires.old }
+    ensures { ClockPlanned (was plan) n m (state_was contents flops) (state_left contents flops) (was inputs) (was values) (left values) result }
 {
     let edges = plan::edges(plan, n);
     let number = buffers::settle_refusal(edges, n, m, contents, flops, inputs, values);

@@ -22,5 +22,5 @@ filled_next f k l v h e p i b = by_place (dec_lt i k)
         let z : i ≡ k = omega arith in
         rw z (get_or-set_same l k v 0 h ∙ e)
 
-pub filled-all : (f : ℕ → ℕ) (k : ℕ) (l : List ℕ) → length l ≡ k → Filled f k l → l ≡ tabulate 0 k f
-filled-all = tabulated
+pub filled_all : (f : ℕ → ℕ) (k : ℕ) (l : List ℕ) → length l ≡ k → Filled f k l → l ≡ tabulate 0 k f
+filled_all = tabulated

@@ -8,8 +8,8 @@ use Rattle.slicefile.specs.declared.Decoded.TheVariants.{Driven, Missing}
 
 -- code 0 or 1 is that constant; 2 is a pin left open; 256+j is outside input j (j < m); 4096+16s+k is output k (0-11) of slice s (s < n).
 -- No other code exists
-unfoldable pub driverOf : ℕ → ℕ → ℕ → Decoded
-driverOf code n m =
+unfoldable pub driver_of : ℕ → ℕ → ℕ → Decoded
+driver_of code n m =
     cond (ltb code 2) (Driven (driver.Constant (eqb code 1)))
     (cond (ltb code 256) (cond (eqb code 2) (Driven driver.Open) Missing)
     (cond (ltb code 4096) (cond (ltb (code - 256) m) (Driven (driver.Input (code - 256))) Missing)

@@ -2,9 +2,9 @@
 use Rattle.std.specs.Prelude.{ℕ, zero, suc, ◌+◌, ◌*◌, Bool, false, ◌||◌, List, [], ◌∷◌}
 
 -- the test passes at some number below the bound
-unfoldable pub anyBelow : ℕ → (ℕ → Bool) → Bool
-anyBelow zero f = false
-anyBelow (suc k) f = f k || anyBelow k f
+unfoldable pub any_below : ℕ → (ℕ → Bool) → Bool
+any_below zero f = false
+any_below (suc k) f = f k || any_below k f
 
 -- the number whose digits in the base are given, lowest first
 abbrev pub digits : ℕ → List ℕ → ℕ

@@ -1,8 +1,8 @@
 // The slice file: its limits, its layout, the words and codes of a slice's body, and the decoder of a pin's driver.
 ghost use Rattle.std.specs.Prelude.{◌≡◌, ◌+◌, ◌<◌, length};
 ghost use Rattle.lent.specs.Lent.{was};
-ghost use Rattle.slicefile.specs.Format.{pair_at, HoldsSlice, contentsWord, pinCount, pinCode};
-ghost use Rattle.slicefile.specs.Driver.{driverOf};
+ghost use Rattle.slicefile.specs.Format.{pair_at, HoldsSlice, contents_word, pin_count, pin_code};
+ghost use Rattle.slicefile.specs.Driver.{driver_of};
 
 // The most slices and outside inputs of a file.
 pub const SLICE_LIMIT: usize = 64;
@@ -119,7 +119,7 @@ pub enum Answer {
 
 // The driver that a pin code names in a file of n slices and m outside inputs.
 pub fn decode_driver(code: u16, n: usize, m: usize) -> Decoded
-    ensures { result ≡ driverOf code n m }
+    ensures { result ≡ driver_of code n m }
 {
     let c = code as usize;
     if c < 2 {
@@ -157,7 +157,7 @@ fn wide(x: u8) -> u64
 // A letter's contents word in a slice's body, low byte first.
 pub fn contents_word(body: &[u8], l: usize) -> u64
     requires { HoldsSlice body.now × (l < 4) }
-    ensures { result ≡ contentsWord (was body) l }
+    ensures { result ≡ contents_word (was body) l }
 {
     let mut w: u64 = 0;
     let mut i: usize = WORD;
@@ -184,8 +184,8 @@ pub fn pair_at(s: &[u8], i: usize) -> u16
 
 // The driver code of pin p in a slice's body.
 pub fn pin_code(body: &[u8], p: usize) -> u16
-    requires { HoldsSlice body.now × (p < pinCount) }
-    ensures { result ≡ pinCode (was body) p }
+    requires { HoldsSlice body.now × (p < pin_count) }
+    ensures { result ≡ pin_code (was body) p }
 {
     pair_at(body, PINS + CODE * p)
 }

@@ -1,7 +1,7 @@
 -- A slice record as fields, and its bytes.
 use Rattle.std.specs.Prelude.{ℕ, zero, suc, ◌/◌, ◌%◌, ◌^◌, ◌<◌, ◌≡◌, List, [], ◌∷◌, ◌++◌, length, get_or}
 use Rattle.slicefile.specs.Lists.{tabulate}
-use Rattle.slicefile.specs.Format.{numberByte, kind, mode, shiftData, contentsWord, carryData, carryStart, muxChoice, mainInput, secondInput, powerUpBits, setResetValues, setResetUsed, pinCount, pinCode, sliceTag, bodyLength}
+use Rattle.slicefile.specs.Format.{number_byte, kind, mode, shift_data, contents_word, carry_data, carry_start, mux_choice, main_input, second_input, power_up_bits, set_reset_values, set_reset_used, pin_count, pin_code, slice_tag, body_length}
 use Rattle.slicerecord.specs.declared.Record.{Record}
 
 -- a field of the four letters
@@ -9,23 +9,23 @@ abbrev pub letters : (ℕ → ℕ) → List ℕ
 letters f = tabulate 0 4 f
 
 -- the record that a slice's body holds
-unfoldable pub recordOf : List ℕ → Record
-recordOf body =
+unfoldable pub record_of : List ℕ → Record
+record_of body =
     record {
-      number = numberByte body;
+      number = number_byte body;
       kind = kind body;
       modes = letters (mode body);
-      shifts = letters (shiftData body);
-      contents = letters (contentsWord body);
-      carries = letters (carryData body);
-      start = carryStart body;
-      muxes = letters (muxChoice body);
-      mains = letters (mainInput body);
-      seconds = letters (secondInput body);
-      powerup = powerUpBits body;
-      resets = setResetValues body;
-      resettable = setResetUsed body;
-      pins = tabulate 0 pinCount (pinCode body);
+      shifts = letters (shift_data body);
+      contents = letters (contents_word body);
+      carries = letters (carry_data body);
+      start = carry_start body;
+      muxes = letters (mux_choice body);
+      mains = letters (main_input body);
+      seconds = letters (second_input body);
+      powerup = power_up_bits body;
+      resets = set_reset_values body;
+      resettable = set_reset_used body;
+      pins = tabulate 0 pin_count (pin_code body);
     }
 
 -- a number's k bytes, low byte first; and those of each number of a list
@@ -38,8 +38,8 @@ all_bytes k [] = []
 all_bytes k (w ∷ ws) = bytes_of k w ++ all_bytes k ws
 
 -- the body of a record, in the order of the layout's table
-unfoldable pub bodyBytes : Record → List ℕ
-bodyBytes r =
+unfoldable pub body_bytes : Record → List ℕ
+body_bytes r =
     (r.number ∷ r.kind ∷ [])
     ++ (r.modes
     ++ (r.shifts
@@ -49,8 +49,8 @@ bodyBytes r =
     ++ (r.muxes ++ (r.mains ++ (r.seconds ++ ((r.powerup ∷ r.resets ∷ r.resettable ∷ []) ++ all_bytes 2 r.pins)))))))))
 
 -- the whole record: tag, length, body
-unfoldable pub recordBytes : Record → List ℕ
-recordBytes r = (sliceTag ∷ bodyLength sliceTag ∷ 0 ∷ []) ++ bodyBytes r
+unfoldable pub record_bytes : Record → List ℕ
+record_bytes r = (slice_tag ∷ body_length slice_tag ∷ 0 ∷ []) ++ body_bytes r
 
 -- what the field types say of a record: the lengths of its arrays
 pub record Sized (r : Record) : Type 0 where
@@ -61,7 +61,7 @@ pub record Sized (r : Record) : Type 0 where
   pub muxes : length r.muxes ≡ 4
   pub mains : length r.mains ≡ 4
   pub seconds : length r.seconds ≡ 4
-  pub pins : length r.pins ≡ pinCount
+  pub pins : length r.pins ≡ pin_count
 
 -- each number of a list is below a bound
 abbrev pub Below : ℕ → List ℕ → Type 0

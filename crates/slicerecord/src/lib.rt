@@ -2,9 +2,9 @@
 ghost use Rattle.std.specs.Prelude.{◌≡◌, ◌+◌, ◌*◌, ◌≤◌, length};
 ghost use Rattle.std.proofs.lemmas.List.Edits.{sets};
 ghost use Rattle.lent.specs.Lent.{was, left};
-ghost use Rattle.slicefile.specs.Format.{byte_at, HoldsSlice, pinCount, pinCode};
+ghost use Rattle.slicefile.specs.Format.{byte_at, HoldsSlice, pin_count, pin_code};
 ghost use Rattle.slicefile.specs.Lists.{tabulate};
-ghost use Rattle.slicerecord.specs.Record.{letters, recordOf, bytes_of, all_bytes, recordBytes};
+ghost use Rattle.slicerecord.specs.Record.{letters, record_of, bytes_of, all_bytes, record_bytes};
 
 use slicefile::{
     CARRY_DATA, CARRY_START, CODE, CONTENTS, HEAD, KIND, MAIN, MODE, MUX, NUMBER, PIN_COUNT, PINS,
@@ -74,7 +74,7 @@ fn letter_bytes(body: &[u8], at: usize) -> [u8; 4]
 // The driver codes of a body's pins.
 fn pin_codes(body: &[u8]) -> [u16; PIN_COUNT]
     requires { HoldsSlice body.now }
-    ensures { result ≡ tabulate 0 pinCount (pinCode (was body)) }
+    ensures { result ≡ tabulate 0 pin_count (pin_code (was body)) }
 {
     let mut codes = [0u16; PIN_COUNT];
     let mut p = 0;
@@ -88,7 +88,7 @@ fn pin_codes(body: &[u8]) -> [u16; PIN_COUNT]
 // The record that a slice's body holds.
 pub fn decode(body: &[u8]) -> Record
     requires { HoldsSlice body.now }
-    ensures { result ≡ recordOf (was body) }
+    ensures { result ≡ record_of (was body) }
 {
     let contents = [
         slicefile::contents_word(body, 0),
@@ -173,7 +173,7 @@ fn put_codes(out: &mut [u8], at: usize, codes: &[u16])
 
 // The bytes of a record: tag, length, body, field by field.
 pub fn encode(slice: Record) -> [u8; SLICE_RECORD]
-    ensures { result ≡ recordBytes slice }
+    ensures { result ≡ record_bytes slice }
 {
     let mut out = [0u8; SLICE_RECORD];
     let modes = slice.modes;

@@ -1,10 +1,10 @@
 // Where a slice takes its bits from: the numbers of its pins and of its own signals, and which of them is "wide".
 ghost use Rattle.std.specs.Prelude.{◌≡◌, ◌+◌, ◌*◌, ◌<◌, ◌≤◌};
 ghost use Rattle.lent.specs.Lent.{was};
-ghost use Rattle.netlist.specs.Table.{sliceSignals, signalWire, inputRoom, code_of};
-ghost use Rattle.slicefile.specs.Format.{pinCount, HoldsSlice};
+ghost use Rattle.netlist.specs.Table.{slice_signals, signal_wire, input_room, code_of};
+ghost use Rattle.slicefile.specs.Format.{pin_count, HoldsSlice};
 ghost use Rattle.slicefile.specs.Driver.{Within, DecodedWithin};
-ghost use Rattle.sources.specs.Sources.{columnLimit, outputSignal, driverSource, decodedSource, pinSource, pinNumbers, wideSignal};
+ghost use Rattle.sources.specs.Sources.{column_limit, output_signal, driver_source, decoded_source, pin_source, pin_numbers, wide_signal};
 
 use netlist::{SIGNAL_WIRE, SLICE_SIGNALS};
 use slicefile::{Decoded, Driver, Output, PIN_COUNT, decode_driver, pin_code};
@@ -36,7 +36,7 @@ const PAST_O6: usize = MUX_SIGNAL - 4;
 // The signal that is output k of its slice.
 fn output_signal(k: usize) -> usize
     requires { k < 12 }
-    ensures { (result ≡ outputSignal k) × (result < sliceSignals) }
+    ensures { (result ≡ output_signal k) × (result < slice_signals) }
 {
     if k < 4 {
         return k;
@@ -46,16 +46,16 @@ fn output_signal(k: usize) -> usize
 
 // The number of signal k of slice s.
 pub fn own_number(s: usize, k: usize) -> u16
-    requires { (s < columnLimit) × (k < sliceSignals) }
-    ensures { result ≡ signalWire + (sliceSignals * s + k) }
+    requires { (s < column_limit) × (k < slice_signals) }
+    ensures { result ≡ signal_wire + (slice_signals * s + k) }
 {
     (SIGNAL_WIRE + SLICE_SIGNALS * s + k) as u16
 }
 
 // The number of an output of a slice.
 fn output_number(o: Output) -> u16
-    requires { (o.slice < columnLimit) × (o.output < 12) }
-    ensures { result ≡ signalWire + (sliceSignals * o.slice + outputSignal o.output) }
+    requires { (o.slice < column_limit) × (o.output < 12) }
+    ensures { result ≡ signal_wire + (slice_signals * o.slice + output_signal o.output) }
 {
     let slice = o.slice;
     let output = o.output;
@@ -64,8 +64,8 @@ fn output_number(o: Output) -> u16
 
 // The number of a driver in the gate table of n slices.
 fn driver_number(n: usize, d: Driver) -> u16
-    requires { (n ≤ columnLimit) × Within n inputRoom d }
-    ensures { result ≡ code_of n (driverSource d) }
+    requires { (n ≤ column_limit) × Within n input_room d }
+    ensures { result ≡ code_of n (driver_source d) }
 {
     match d {
         Driver::Constant(b) => if b { 1 } else { 0 },
@@ -76,8 +76,8 @@ fn driver_number(n: usize, d: Driver) -> u16
 }
 
 fn decoded_number(n: usize, d: Decoded) -> u16
-    requires { (n ≤ columnLimit) × DecodedWithin n inputRoom d }
-    ensures { result ≡ code_of n (decodedSource d) }
+    requires { (n ≤ column_limit) × DecodedWithin n input_room d }
+    ensures { result ≡ code_of n (decoded_source d) }
 {
     match d {
         Decoded::Driven(v) => driver_number(n, v),
@@ -87,16 +87,16 @@ fn decoded_number(n: usize, d: Decoded) -> u16
 
 // The number of where pin p of a slice takes its bit from.
 pub fn pin_number(n: usize, m: usize, body: &[u8], p: usize) -> u16
-    requires { HoldsSlice body.now × (p < pinCount) × (n ≤ columnLimit) × (m ≤ inputRoom) }
-    ensures { result ≡ code_of n (pinSource n m (was body) p) }
+    requires { HoldsSlice body.now × (p < pin_count) × (n ≤ column_limit) × (m ≤ input_room) }
+    ensures { result ≡ code_of n (pin_source n m (was body) p) }
 {
     decoded_number(n, decode_driver(pin_code(body, p), n, m))
 }
 
 // The numbers of all pins of a slice.
 pub fn pin_numbers(n: usize, m: usize, body: &[u8]) -> [u16; PIN_COUNT]
-    requires { HoldsSlice body.now × (n ≤ columnLimit) × (m ≤ inputRoom) }
-    ensures { result ≡ pinNumbers n m (was body) }
+    requires { HoldsSlice body.now × (n ≤ column_limit) × (m ≤ input_room) }
+    ensures { result ≡ pin_numbers n m (was body) }
 {
     let mut numbers = [0u16; PIN_COUNT];
     let mut p = 0;
@@ -109,7 +109,7 @@ pub fn pin_numbers(n: usize, m: usize, body: &[u8]) -> [u16; PIN_COUNT]
 
 // The signal that is "wide" for a letter.
 pub fn wide_signal(l: usize) -> usize
-    ensures { (result ≡ wideSignal l) × (result < sliceSignals) }
+    ensures { (result ≡ wide_signal l) × (result < slice_signals) }
 {
     if l == 0 {
         return F7A_SIGNAL;

@@ -7,58 +7,58 @@ use Prim.Native.Nat.{ℕ}
 use borrow.Author.Tests.{eqb-true}
 use lib.Dec.{eqb}
 use lib.ListN.{length, take}
-use Rattle.column.specs.File.{fileLimit}
+use Rattle.column.specs.File.{file_limit}
 use Rattle.column.specs.Judge.{Judged}
-use Rattle.column.specs.Check.{checkFrom}
+use Rattle.column.specs.Check.{check_from}
 use Rattle.column.specs.declared.Verdict.{Verdict}
 use Rattle.column.specs.declared.Verdict.TheVariants.{Refused, Accepted}
-use Rattle.column.proofs.Verdicts.{not-both, accepted-sound}
-use Rattle.column.proofs.PrefixLaws.{sound-short}
+use Rattle.column.proofs.Verdicts.{not_both, accepted_sound}
+use Rattle.column.proofs.PrefixLaws.{sound_short}
 use Rattle.stream.specs.declared.Reply.{Reply}
 use Rattle.stream.specs.declared.Reply.TheVariants.{More, Given}
 use Rattle.stream.specs.declared.Reader.{Reader}
 use Rattle.stream.specs.declared.Fed.{Fed}
-use Rattle.stream.specs.Feeding.{outOfRange, seen, NextState, judged, certain, waits, Keeps, FeedsBy, Feeds}
-use Rattle.stream.proofs.NextStates.{more-or-given, same-verdict, given-early}
-use Rattle.stream.proofs.Taking.{own-len, front-seen}
-use Rattle.stream.proofs.Calls.{run-told}
+use Rattle.stream.specs.Feeding.{out_of_range, seen, NextState, judged, certain, waits, Keeps, FeedsBy, Feeds}
+use Rattle.stream.proofs.NextStates.{more_or_given, same_verdict, given_early}
+use Rattle.stream.proofs.Taking.{own_len, front_seen}
+use Rattle.stream.proofs.Calls.{run_told}
 
 -- ---- the sender's last word
-all-judged : {bytes : List ℕ} {len passed : ℕ} {b : Bool} {next : Reader} → b ≡ true → NextState bytes len passed b next → (v : Verdict) × Judged bytes v × (next.said ≡ Given v)
-all-judged e (judged {v} j) = (v, j, refl)
-all-judged e (certain g) = absurd (true≢false (sym e))
-all-judged e (waits g) = absurd (true≢false (sym e))
+all_judged : {bytes : List ℕ} {len passed : ℕ} {b : Bool} {next : Reader} → b ≡ true → NextState bytes len passed b next → (v : Verdict) × Judged bytes v × (next.said ≡ Given v)
+all_judged e (judged {v} j) = (v, j, refl)
+all_judged e (certain g) = absurd (true≢false (sym e))
+all_judged e (waits g) = absurd (true≢false (sym e))
 
-pub last-judged : {r : Reader} {store run : List ℕ} {fed : Fed} {after : List ℕ} → length store ≡ fileLimit → r.said ≡ More → outOfRange r ≡ false → Feeds r store run true fed after
+pub last_judged : {r : Reader} {store run : List ℕ} {fed : Fed} {after : List ℕ} → length store ≡ file_limit → r.said ≡ More → out_of_range r ≡ false → Feeds r store run true fed after
     → (v : Verdict) × Judged (seen r store run) v × (fed.reply ≡ Given v)
-last-judged full waiting own f =
-    let t = run-told full waiting own f in
-    let h = all-judged refl t.takes.state in
+last_judged full waiting own f =
+    let t = run_told full waiting own f in
+    let h = all_judged refl t.takes.state in
     (h.0, h.1, t.says ∙ h.2)
 
 -- ---- accepted
-next-len : {bytes : List ℕ} {len passed : ℕ} {b : Bool} {next : Reader} → NextState bytes len passed b next → next.len ≡ len
-next-len (judged j) = refl
-next-len (certain e) = refl
-next-len (waits e) = refl
+next_len : {bytes : List ℕ} {len passed : ℕ} {b : Bool} {next : Reader} → NextState bytes len passed b next → next.len ≡ len
+next_len (judged j) = refl
+next_len (certain e) = refl
+next_len (waits e) = refl
 
-next-accepted : {bytes : List ℕ} {len passed n m : ℕ} {b : Bool} {next : Reader} → next.said ≡ Given (Accepted n m) → NextState bytes len passed b next → Judged bytes (Accepted n m)
-next-accepted {bytes} e (judged j) = subst (Judged bytes) (same-verdict e) j
-next-accepted {bytes} {passed = passed} e (certain g) = let k = given-early (checkFrom passed bytes) (g ∙ e) in absurd (not-both _ refl k.4)
-next-accepted e (waits g) = absurd (more-or-given More refl e)
+next_accepted : {bytes : List ℕ} {len passed n m : ℕ} {b : Bool} {next : Reader} → next.said ≡ Given (Accepted n m) → NextState bytes len passed b next → Judged bytes (Accepted n m)
+next_accepted {bytes} e (judged j) = subst (Judged bytes) (same_verdict e) j
+next_accepted {bytes} {passed = passed} e (certain g) = let k = given_early (check_from passed bytes) (g ∙ e) in absurd (not_both _ refl k.4)
+next_accepted e (waits g) = absurd (more_or_given More refl e)
 
 module _ (r : Reader) (store run : List ℕ) (last : Bool) (fed : Fed) (after : List ℕ) {n m : ℕ} (accepts : fed.reply ≡ Given (Accepted n m)) where
-  not-kept : {k : ℕ} → Keeps (Given (Refused k 0)) r store fed after → ⊥
-  not-kept k = not-both _ refl (same-verdict (sym k.says ∙ accepts))
+  not_kept : {k : ℕ} → Keeps (Given (Refused k 0)) r store fed after → ⊥
+  not_kept k = not_both _ refl (same_verdict (sym k.says ∙ accepts))
 
-  by_row : (sized : Bool) (said : Reply) (out : Bool) → eqb (length store) fileLimit ≡ sized → outOfRange r ≡ out → said ≡ More → FeedsBy sized said out r store run last fed after
+  by_row : (sized : Bool) (said : Reply) (out : Bool) → eqb (length store) file_limit ≡ sized → out_of_range r ≡ out → said ≡ More → FeedsBy sized said out r store run last fed after
       → Judged (seen r store run) (Accepted n m) × (take fed.reader.len after ≡ seen r store run)
-  by_row false said out e g o k = absurd (not-kept k)
-  by_row true (Given v) out e g o k = absurd (more-or-given (Given v) o refl)
-  by_row true More true e g o k = absurd (not-kept k)
+  by_row false said out e g o k = absurd (not_kept k)
+  by_row true (Given v) out e g o k = absurd (more_or_given (Given v) o refl)
+  by_row true More true e g o k = absurd (not_kept k)
   by_row true More false e g o k =
-      let j = next-accepted (sym k.says ∙ accepts) k.takes.state in
-      (j, front-seen r store run (eqb-true (length store) fileLimit e) (own-len r g) (sound-short (seen r store run) (accepted-sound (seen r store run) j)) (next-len k.takes.state) k.takes.stored)
+      let j = next_accepted (sym k.says ∙ accepts) k.takes.state in
+      (j, front_seen r store run (eqb-true (length store) file_limit e) (own_len r g) (sound_short (seen r store run) (accepted_sound (seen r store run) j)) (next_len k.takes.state) k.takes.stored)
 
-  pub accepted-kept : r.said ≡ More → Feeds r store run last fed after → Judged (seen r store run) (Accepted n m) × (take fed.reader.len after ≡ seen r store run)
-  accepted-kept o f = by_row (eqb (length store) fileLimit) r.said (outOfRange r) refl refl o f.by
+  pub accepted_kept : r.said ≡ More → Feeds r store run last fed after → Judged (seen r store run) (Accepted n m) × (take fed.reader.len after ≡ seen r store run)
+  accepted_kept o f = by_row (eqb (length store) file_limit) r.said (out_of_range r) refl refl o f.by

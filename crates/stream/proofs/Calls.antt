@@ -6,14 +6,14 @@ use Prim.Native.Nat.{ℕ}
 use borrow.Author.Tests.{eq-eqb, ne_eqb}
 use lib.Dec.{eqb}
 use lib.ListN.{length}
-use Rattle.column.specs.File.{fileLimit}
+use Rattle.column.specs.File.{file_limit}
 use Rattle.column.specs.declared.Verdict.{Verdict}
 use Rattle.column.specs.declared.Verdict.TheVariants.{Refused}
 use Rattle.stream.specs.declared.Reply.{Reply}
 use Rattle.stream.specs.declared.Reply.TheVariants.{More, Given}
 use Rattle.stream.specs.declared.Reader.{Reader}
 use Rattle.stream.specs.declared.Fed.{Fed}
-use Rattle.stream.specs.Feeding.{outOfRange, Keeps, TakesRun, FeedsBy, Feeds}
+use Rattle.stream.specs.Feeding.{out_of_range, Keeps, TakesRun, FeedsBy, Feeds}
 
 -- a row of a table, found by its conditions
 row : (table : Bool → Reply → Bool → Type 0) {sized sized' out out' : Bool} {said said' : Reply} → sized ≡ sized' → said ≡ said' → out ≡ out'
@@ -24,33 +24,33 @@ row table e f g k = rw (← e, ← f, ← g) k
 abbrev calls : Reader → List ℕ → List ℕ → Bool → Fed → List ℕ → Bool → Reply → Bool → Type 0
 calls r store run last fed after sized said out = FeedsBy sized said out r store run last fed after
 
-sized : (store : List ℕ) → length store ≡ fileLimit → eqb (length store) fileLimit ≡ true
-sized store full = eq-eqb (length store) fileLimit full
+sized : (store : List ℕ) → length store ≡ file_limit → eqb (length store) file_limit ≡ true
+sized store full = eq-eqb (length store) file_limit full
 
 module _ {r : Reader} {store run : List ℕ} {last : Bool} {fed : Fed} {after : List ℕ} where
   -- ---- made
-  pub feeds-wrong : (length store ≡ fileLimit → ⊥) → Keeps (Given (Refused 10 0)) r store fed after → Feeds r store run last fed after
-  feeds-wrong ne k = record { by = row (calls r store run last fed after) {out = outOfRange r} {said = r.said} (sym (ne_eqb (length store) fileLimit ne)) refl refl k }
+  pub feeds_wrong : (length store ≡ file_limit → ⊥) → Keeps (Given (Refused 10 0)) r store fed after → Feeds r store run last fed after
+  feeds_wrong ne k = record { by = row (calls r store run last fed after) {out = out_of_range r} {said = r.said} (sym (ne_eqb (length store) file_limit ne)) refl refl k }
 
-  pub wrong-told : (length store ≡ fileLimit → ⊥) → Feeds r store run last fed after → Keeps (Given (Refused 10 0)) r store fed after
-  wrong-told ne k = row (calls r store run last fed after) {out = outOfRange r} {said = r.said} (ne_eqb (length store) fileLimit ne) refl refl k.by
+  pub wrong_told : (length store ≡ file_limit → ⊥) → Feeds r store run last fed after → Keeps (Given (Refused 10 0)) r store fed after
+  wrong_told ne k = row (calls r store run last fed after) {out = out_of_range r} {said = r.said} (ne_eqb (length store) file_limit ne) refl refl k.by
 
-  module _ (full : length store ≡ fileLimit) where
-    pub feeds-again : {v : Verdict} → r.said ≡ Given v → Keeps (Given v) r store fed after → Feeds r store run last fed after
-    feeds-again e k = record { by = row (calls r store run last fed after) {out = outOfRange r} (sym (sized store full)) (sym e) refl k }
+  module _ (full : length store ≡ file_limit) where
+    pub feeds_again : {v : Verdict} → r.said ≡ Given v → Keeps (Given v) r store fed after → Feeds r store run last fed after
+    feeds_again e k = record { by = row (calls r store run last fed after) {out = out_of_range r} (sym (sized store full)) (sym e) refl k }
 
-    pub feeds-out-of-range : r.said ≡ More → outOfRange r ≡ true → Keeps (Given (Refused 11 0)) r store fed after → Feeds r store run last fed after
-    feeds-out-of-range e f k = record { by = row (calls r store run last fed after) (sym (sized store full)) (sym e) (sym f) k }
+    pub feeds_out_of_range : r.said ≡ More → out_of_range r ≡ true → Keeps (Given (Refused 11 0)) r store fed after → Feeds r store run last fed after
+    feeds_out_of_range e f k = record { by = row (calls r store run last fed after) (sym (sized store full)) (sym e) (sym f) k }
 
-    pub feeds-run : r.said ≡ More → outOfRange r ≡ false → TakesRun r store run last fed after → Feeds r store run last fed after
-    feeds-run e f k = record { by = row (calls r store run last fed after) (sym (sized store full)) (sym e) (sym f) k }
+    pub feeds_run : r.said ≡ More → out_of_range r ≡ false → TakesRun r store run last fed after → Feeds r store run last fed after
+    feeds_run e f k = record { by = row (calls r store run last fed after) (sym (sized store full)) (sym e) (sym f) k }
 
     -- ---- told
-    pub out-of-range-told : r.said ≡ More → outOfRange r ≡ true → Feeds r store run last fed after → Keeps (Given (Refused 11 0)) r store fed after
-    out-of-range-told e f k = row (calls r store run last fed after) (sized store full) e f k.by
+    pub out_of_range_told : r.said ≡ More → out_of_range r ≡ true → Feeds r store run last fed after → Keeps (Given (Refused 11 0)) r store fed after
+    out_of_range_told e f k = row (calls r store run last fed after) (sized store full) e f k.by
 
-    pub again-told : {v : Verdict} → r.said ≡ Given v → Feeds r store run last fed after → Keeps (Given v) r store fed after
-    again-told e k = row (calls r store run last fed after) {out = outOfRange r} (sized store full) e refl k.by
+    pub again_told : {v : Verdict} → r.said ≡ Given v → Feeds r store run last fed after → Keeps (Given v) r store fed after
+    again_told e k = row (calls r store run last fed after) {out = out_of_range r} (sized store full) e refl k.by
 
-    pub run-told : r.said ≡ More → outOfRange r ≡ false → Feeds r store run last fed after → TakesRun r store run last fed after
-    run-told e f k = row (calls r store run last fed after) (sized store full) e f k.by
+    pub run_told : r.said ≡ More → out_of_range r ≡ false → Feeds r store run last fed after → TakesRun r store run last fed after
+    run_told e f k = row (calls r store run last fed after) (sized store full) e f k.by

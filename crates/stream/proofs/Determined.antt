@@ -5,48 +5,48 @@ use mathlib.Core.List.{List}
 use Prim.Native.Nat.{ℕ}
 use lib.Dec.{eqb}
 use lib.ListN.{length}
-use Rattle.column.specs.File.{fileLimit}
+use Rattle.column.specs.File.{file_limit}
 use Rattle.column.specs.declared.Verdict.{Verdict}
-use Rattle.column.proofs.Verdicts.{judged-unique}
+use Rattle.column.proofs.Verdicts.{judged_unique}
 use Rattle.stream.specs.declared.Reply.{Reply}
 use Rattle.stream.specs.declared.Reply.TheVariants.{More, Given}
 use Rattle.stream.specs.declared.Reader.{Reader}
 use Rattle.stream.specs.declared.Fed.{Fed}
-use Rattle.stream.specs.Feeding.{reader, outOfRange, seen, NextState, judged, certain, waits, Keeps, FeedsBy, Feeds}
+use Rattle.stream.specs.Feeding.{reader, out_of_range, seen, NextState, judged, certain, waits, Keeps, FeedsBy, Feeds}
 use Rattle.stream.specs.Sessions.{Owed, ended, certain as owed-certain, more}
-use Rattle.stream.proofs.NextStates.{more-or-given, same-verdict}
+use Rattle.stream.proofs.NextStates.{more_or_given, same_verdict}
 
 -- what is owed is one reply
-pub owed-unique : (bytes : List ℕ) {last : Bool} {a b : Reply} → Owed bytes last a → Owed bytes last b → a ≡ b
-owed-unique bytes (ended j) (ended i) = ap Given (judged-unique bytes j i)
-owed-unique bytes (owed-certain c j) (owed-certain d i) = ap Given (judged-unique bytes j i)
-owed-unique bytes (owed-certain c j) (more never) = absurd (never c)
-owed-unique bytes (more never) (owed-certain d i) = absurd (never d)
-owed-unique bytes (more never) (more nor) = refl
+pub owed_unique : (bytes : List ℕ) {last : Bool} {a b : Reply} → Owed bytes last a → Owed bytes last b → a ≡ b
+owed_unique bytes (ended j) (ended i) = ap Given (judged_unique bytes j i)
+owed_unique bytes (owed-certain c j) (owed-certain d i) = ap Given (judged_unique bytes j i)
+owed_unique bytes (owed-certain c j) (more never) = absurd (never c)
+owed_unique bytes (more never) (owed-certain d i) = absurd (never d)
+owed_unique bytes (more never) (more nor) = refl
 
 -- ---- a call
-next-unique : (bytes : List ℕ) {len passed : ℕ} {b : Bool} {x y : Reader} → NextState bytes len passed b x → NextState bytes len passed b y → x ≡ y
-next-unique bytes {len} {passed} (judged j) (judged i) = ap (λ (v : Verdict). reader len passed (Given v)) (judged-unique bytes j i)
-next-unique bytes {len} {passed} (certain e) (certain f) = ap (λ (v : Verdict). reader len passed (Given v)) (same-verdict (sym e ∙ f))
-next-unique bytes (certain e) (waits f) = absurd (more-or-given _ f e)
-next-unique bytes (waits e) (certain f) = absurd (more-or-given _ e f)
-next-unique bytes (waits e) (waits f) = refl
+next_unique : (bytes : List ℕ) {len passed : ℕ} {b : Bool} {x y : Reader} → NextState bytes len passed b x → NextState bytes len passed b y → x ≡ y
+next_unique bytes {len} {passed} (judged j) (judged i) = ap (λ (v : Verdict). reader len passed (Given v)) (judged_unique bytes j i)
+next_unique bytes {len} {passed} (certain e) (certain f) = ap (λ (v : Verdict). reader len passed (Given v)) (same_verdict (sym e ∙ f))
+next_unique bytes (certain e) (waits f) = absurd (more_or_given _ f e)
+next_unique bytes (waits e) (certain f) = absurd (more_or_given _ e f)
+next_unique bytes (waits e) (waits f) = refl
 
 module _ (r : Reader) (store run : List ℕ) (last : Bool) where
-  same-fed : {fed fed' : Fed} → fed.reply ≡ fed'.reply → fed.reader ≡ fed'.reader → fed ≡ fed'
-  same-fed e f = ap₂ (λ (a : Reply) (b : Reader). record { reply = a; reader = b }) e f
+  same_fed : {fed fed' : Fed} → fed.reply ≡ fed'.reply → fed.reader ≡ fed'.reader → fed ≡ fed'
+  same_fed e f = ap₂ (λ (a : Reply) (b : Reader). record { reply = a; reader = b }) e f
 
-  kept-once : {reply : Reply} {fed fed' : Fed} {after after' : List ℕ} → Keeps reply r store fed after → Keeps reply r store fed' after' → (fed ≡ fed') × (after ≡ after')
-  kept-once k l = (same-fed (k.says ∙ sym l.says) (k.same ∙ sym l.same), k.untouched ∙ sym l.untouched)
+  kept_once : {reply : Reply} {fed fed' : Fed} {after after' : List ℕ} → Keeps reply r store fed after → Keeps reply r store fed' after' → (fed ≡ fed') × (after ≡ after')
+  kept_once k l = (same_fed (k.says ∙ sym l.says) (k.same ∙ sym l.same), k.untouched ∙ sym l.untouched)
 
   by_row : (sized : Bool) (said : Reply) (out : Bool) (fed fed' : Fed) (after after' : List ℕ) → FeedsBy sized said out r store run last fed after
       → FeedsBy sized said out r store run last fed' after' → (fed ≡ fed') × (after ≡ after')
-  by_row false said out fed fed' after after' k l = kept-once k l
-  by_row true (Given v) out fed fed' after after' k l = kept-once k l
-  by_row true More true fed fed' after after' k l = kept-once k l
+  by_row false said out fed fed' after after' k l = kept_once k l
+  by_row true (Given v) out fed fed' after after' k l = kept_once k l
+  by_row true More true fed fed' after after' k l = kept_once k l
   by_row true More false fed fed' after after' k l =
-      let same = next-unique (seen r store run) k.takes.state l.takes.state in
-      (same-fed (k.says ∙ ap (λ (x : Reader). x.said) same ∙ sym l.says) same, k.takes.stored ∙ sym l.takes.stored)
+      let same = next_unique (seen r store run) k.takes.state l.takes.state in
+      (same_fed (k.says ∙ ap (λ (x : Reader). x.said) same ∙ sym l.says) same, k.takes.stored ∙ sym l.takes.stored)
 
-  pub feeds-unique : {fed fed' : Fed} {after after' : List ℕ} → Feeds r store run last fed after → Feeds r store run last fed' after' → (fed ≡ fed') × (after ≡ after')
-  feeds-unique k l = by_row (eqb (length store) fileLimit) r.said (outOfRange r) _ _ _ _ k.by l.by
+  pub feeds_unique : {fed fed' : Fed} {after after' : List ℕ} → Feeds r store run last fed after → Feeds r store run last fed' after' → (fed ≡ fed') × (after ≡ after')
+  feeds_unique k l = by_row (eqb (length store) file_limit) r.said (out_of_range r) _ _ _ _ k.by l.by

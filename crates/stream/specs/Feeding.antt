@@ -1,9 +1,9 @@
 -- One call of the reader: what it says, the state it hands on and the bytes in its store, for any state.
 use Rattle.std.specs.Prelude.{ℕ, ◌+◌, ◌-◌, ◌≤◌, ◌≡◌, Bool, true, false, cond, ◌||◌, List, ◌++◌, eqb, ltb, length, take}
 use Rattle.std.proofs.lemmas.List.Edits.{sets}
-use Rattle.slicefile.specs.Format.{sliceLimit}
-use Rattle.column.specs.File.{fileLimit}
-use Rattle.column.specs.Check.{checkFrom, passedFrom}
+use Rattle.slicefile.specs.Format.{slice_limit}
+use Rattle.column.specs.File.{file_limit}
+use Rattle.column.specs.Check.{check_from, passed_from}
 use Rattle.column.specs.Judge.{Judged}
 use Rattle.column.specs.declared.Checked.{Checked}
 use Rattle.column.specs.declared.Checked.TheVariants.{Bad, Sound}
@@ -22,8 +22,8 @@ abbrev pub fresh : Reader
 fresh = reader 0 0 More
 
 -- a state that no call leaves: more bytes than the store has, or more slices than a file
-abbrev pub outOfRange : Reader → Bool
-outOfRange r = ltb fileLimit r.len || ltb sliceLimit r.passed
+abbrev pub out_of_range : Reader → Bool
+out_of_range r = ltb file_limit r.len || ltb slice_limit r.passed
 
 -- what a check says while more bytes may come: bytes that run out (1) may go on, and so may a sound file
 abbrev pub early : Checked → Reply
@@ -32,20 +32,20 @@ early (Sound n m) = More
 
 -- what is said of a full store when more bytes come: 8 behind it, where no other refusal is certain
 abbrev pub overfull : Reply → Reply
-overfull More = Given (Refused 8 fileLimit)
+overfull More = Given (Refused 8 file_limit)
 overfull (Given v) = Given v
 
 -- with so many bytes more, which find room, the check, taken up behind some slices, runs out of bytes in the next one
 pub record StaysInside (bytes : List ℕ) (passed more : ℕ) : Type 0 where
-  pub room : length bytes + more ≤ fileLimit
-  pub waits : (x : List ℕ) → length x ≡ more → (More ≡ early (checkFrom passed (bytes ++ x))) × (passed ≡ passedFrom passed (bytes ++ x))
+  pub room : length bytes + more ≤ file_limit
+  pub waits : (x : List ℕ) → length x ≡ more → (More ≡ early (check_from passed (bytes ++ x))) × (passed ≡ passed_from passed (bytes ++ x))
 
 -- the reader after some bytes, of which so many are kept and so many slices have passed before: with all of them there, the judge's verdict;
 -- else what the check says, taken up behind those slices
 pub data NextState (bytes : List ℕ) (len passed : ℕ) : Bool → Reader → Type 0 where
   judged : {v : Verdict} → Judged bytes v → NextState bytes len passed true (reader len passed (Given v))
-  certain : {v : Verdict} → early (checkFrom passed bytes) ≡ Given v → NextState bytes len passed false (reader len passed (Given v))
-  waits : early (checkFrom passed bytes) ≡ More → NextState bytes len passed false (reader len (passedFrom passed bytes) More)
+  certain : {v : Verdict} → early (check_from passed bytes) ≡ Given v → NextState bytes len passed false (reader len passed (Given v))
+  waits : early (check_from passed bytes) ≡ More → NextState bytes len passed false (reader len (passed_from passed bytes) More)
 
 -- the bytes seen, with a run: those at the front of the store, and the run
 abbrev pub seen : Reader → List ℕ → List ℕ → List ℕ
@@ -53,11 +53,11 @@ seen r store run = take r.len store ++ run
 
 -- the bytes of a run that find room in the store
 abbrev pub fitting : Reader → List ℕ → List ℕ
-fitting r run = take (fileLimit - r.len) run
+fitting r run = take (file_limit - r.len) run
 
 -- "the sender says there is no more", or there are more bytes than the longest file has
 abbrev pub final : Bool → List ℕ → Bool
-final last bytes = last || ltb fileLimit (length bytes)
+final last bytes = last || ltb file_limit (length bytes)
 
 -- a run taken into the store
 pub record Takes (r : Reader) (store run : List ℕ) (last : Bool) (next : Reader) (after : List ℕ) : Type 0 where
@@ -84,4 +84,4 @@ FeedsBy true More true r store run last fed after = Keeps (Given (Refused 11 0))
 FeedsBy true More false r store run last fed after = TakesRun r store run last fed after
 
 pub record Feeds (r : Reader) (store run : List ℕ) (last : Bool) (fed : Fed) (after : List ℕ) : Type 0 where
-  pub by : FeedsBy (eqb (length store) fileLimit) r.said (outOfRange r) r store run last fed after
+  pub by : FeedsBy (eqb (length store) file_limit) r.said (out_of_range r) r store run last fed after

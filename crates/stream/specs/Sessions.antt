@@ -1,6 +1,6 @@
 -- The reader in the words of request One: what is certain, what a call owes, and calls one after another.
 use Rattle.std.specs.Prelude.{ℕ, ◌≤◌, ◌≡◌, Bool, true, false, List, [], ◌∷◌, ◌++◌, length, take}
-use Rattle.column.specs.File.{fileLimit}
+use Rattle.column.specs.File.{file_limit}
 use Rattle.column.specs.Check.{Passed}
 use Rattle.column.specs.Judge.{Judged}
 use Rattle.column.specs.declared.Verdict.{Verdict}
@@ -24,7 +24,7 @@ pub data Owed (bytes : List ℕ) : Bool → Reply → Type 0 where
 
 -- a reader that has seen these bytes, keeps them, and has given no verdict
 pub record Holds (r : Reader) (store bytes : List ℕ) : Type 0 where
-  pub room : length store ≡ fileLimit
+  pub room : length store ≡ file_limit
   pub waits : r.said ≡ More
   pub count : r.len ≡ length bytes
   pub kept : take r.len store ≡ bytes
@@ -32,7 +32,7 @@ pub record Holds (r : Reader) (store bytes : List ℕ) : Type 0 where
 
 -- one that has given its verdict
 pub record Closed (v : Verdict) (r : Reader) (store : List ℕ) : Type 0 where
-  pub room : length store ≡ fileLimit
+  pub room : length store ≡ file_limit
   pub verdict : r.said ≡ Given v
 
 -- the state that a reply leaves
@@ -47,7 +47,7 @@ pub record Call : Type 0 where
 
 -- "each call given the state the last one left": the replies to a list of calls
 pub data Session : Reader → List ℕ → List Call → List Reply → Type 0 where
-  no-calls : {r : Reader} {store : List ℕ} → Session r store [] []
+  no_calls : {r : Reader} {store : List ℕ} → Session r store [] []
   call : {r : Reader} {store after : List ℕ} {c : Call} {fed : Fed} {calls : List Call} {replies : List Reply}
       → Feeds r store c.run c.last fed after → Session fed.reader after calls replies → Session r store (c ∷ calls) (fed.reply ∷ replies)
 
@@ -57,10 +57,10 @@ joined [] = []
 joined (c ∷ calls) = c.run ++ joined calls
 
 -- the first verdict among some replies
-abbrev pub firstVerdict : List Reply → Reply
-firstVerdict [] = More
-firstVerdict (More ∷ replies) = firstVerdict replies
-firstVerdict (Given v ∷ replies) = Given v
+abbrev pub first_verdict : List Reply → Reply
+first_verdict [] = More
+first_verdict (More ∷ replies) = first_verdict replies
+first_verdict (Given v ∷ replies) = Given v
 
 -- what a reply is by the first verdict before it: that one again, else what is owed on all bytes so far
 abbrev pub Follows : Reply → List ℕ → Bool → Reply → Type 0
@@ -68,5 +68,5 @@ Follows (Given v) bytes last reply = reply ≡ Given v
 Follows More bytes last reply = Owed bytes last reply
 
 -- where there is no call
-abbrev pub noCall : Call
-noCall = record { run = []; last = false }
+abbrev pub no_call : Call
+no_call = record { run = []; last = false }

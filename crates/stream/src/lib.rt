@@ -1,9 +1,9 @@
 // A file that comes in runs of bytes: a reader says "more", or its verdict as soon as it is certain.
 ghost use Rattle.std.specs.Prelude.{◌≡◌, true, false, ◌≤◌, length};
 ghost use Rattle.lent.specs.Lent.{was, left};
-ghost use Rattle.slicefile.specs.Format.{sliceLimit};
-ghost use Rattle.column.specs.File.{fileLimit};
-ghost use Rattle.stream.specs.Feeding.{outOfRange, early, StaysInside, overfull, NextState, Takes, Feeds};
+ghost use Rattle.slicefile.specs.Format.{slice_limit};
+ghost use Rattle.column.specs.File.{file_limit};
+ghost use Rattle.stream.specs.Feeding.{out_of_range, early, StaysInside, overfull, NextState, Takes, Feeds};
 
 use column::{Checked, FILE_LIMIT, Verdict};
 use slicefile::{HEAD, SIZE_RECORD, SLICE_COUNT, SLICE_LIMIT, SLICE_RECORD, SLICE_TAG};
@@ -60,7 +60,7 @@ fn overfull_reply(said: Reply) -> Reply
 
 // The reader after bytes that all stand in its store, while more may come.
 fn next_reader(bytes: &[u8], passed: usize) -> Reader
-    requires { passed ≤ sliceLimit }
+    requires { passed ≤ slice_limit }
     ensures { NextState (was bytes) (length (was bytes)) passed false result }
 {
     let len = bytes.len();
@@ -80,7 +80,7 @@ fn next_reader(bytes: &[u8], passed: usize) -> Reader
 // Takes a run into the store of a reader that has given no verdict yet. Of one that finds no room, what does is taken first and checked from its
 // start.
 fn take_run(reader: Reader, store: &mut [u8], run: &[u8], last: bool) -> Reader
-    requires { (length store.old ≡ fileLimit) × (outOfRange reader ≡ false) }
+    requires { (length store.old ≡ file_limit) × (out_of_range reader ≡ false) }
     ensures { Takes reader (was store) (was run) last result (left store) }
 {
     let at = reader.len;
@@ -116,7 +116,7 @@ fn take_run(reader: Reader, store: &mut [u8], run: &[u8], last: bool) -> Reader
 
 // Whether the bytes end in the body of the slice behind those that passed, and still do with so many more: then nothing more is certain.
 fn stays_inside(bytes: &[u8], passed: usize, more: usize) -> bool
-    requires { passed ≤ sliceLimit }
+    requires { passed ≤ slice_limit }
     ensures { result ≡ true → StaysInside (was bytes) passed more }
 {
     let at = SIZE_RECORD + SLICE_RECORD * passed;
@@ -141,7 +141,7 @@ fn stays_inside(bytes: &[u8], passed: usize, more: usize) -> bool
 
 // Takes a run. In the body of a slice, where most runs of a few bytes end, there is nothing to check.
 fn take(reader: Reader, store: &mut [u8], run: &[u8], last: bool) -> Reader
-    requires { (length store.old ≡ fileLimit) × (outOfRange reader ≡ false) }
+    requires { (length store.old ≡ file_limit) × (out_of_range reader ≡ false) }
     ensures { Takes reader (was store) (was run) last result (left store) }
 {
     let at = reader.len;

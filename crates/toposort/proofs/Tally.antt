@@ -10,7 +10,7 @@ use lib.ListN.{length, get_or, set, take, replicate, length-set, length-replicat
 use lib.Seq.{get_or-set_same, get_or-set_other, length-take-le}
 use lib.Dec.{eqb}
 use borrow.Author.Tests.{eq-eqb, ne_eqb}
-use Rattle.toposort.specs.Tally.{doneMark, one-if, tally, room}
+use Rattle.toposort.specs.Tally.{done_mark, one_if, tally, room}
 
 -- by cases on whether x is y
 pub same_or_not : {C : Type 0} (x y : ℕ) → (x ≡ y → C) → ((x ≡ y → ⊥) → C) → C
@@ -38,79 +38,79 @@ in_list (a ∷ l) (suc x) h = suc-le-suc (in_list l x h)
 
 -- ---- tally
 
-pub tally-keep : (d : ℕ) (l : List ℕ) (i v : ℕ) → (get_or l i 0 ≡ d → ⊥) → (v ≡ d → ⊥) → tally d (set l i v) ≡ tally d l
+pub tally_keep : (d : ℕ) (l : List ℕ) (i v : ℕ) → (get_or l i 0 ≡ d → ⊥) → (v ≡ d → ⊥) → tally d (set l i v) ≡ tally d l
 unfolding tally
-tally-keep d [] i v h k = refl
-tally-keep d (a ∷ l) zero v h k = simp (ne_eqb v d k, ne_eqb a d h)
-tally-keep d (a ∷ l) (suc i) v h k = ap (one-if (eqb a d)) (tally-keep d l i v h k)
+tally_keep d [] i v h k = refl
+tally_keep d (a ∷ l) zero v h k = simp (ne_eqb v d k, ne_eqb a d h)
+tally_keep d (a ∷ l) (suc i) v h k = ap (one_if (eqb a d)) (tally_keep d l i v h k)
 
-one-if-suc : (b : Bool) (n : ℕ) → one-if b (suc n) ≡ suc (one-if b n)
-one-if-suc true n = refl
-one-if-suc false n = refl
+one_if_suc : (b : Bool) (n : ℕ) → one_if b (suc n) ≡ suc (one_if b n)
+one_if_suc true n = refl
+one_if_suc false n = refl
 
-pub tally-add : (d : ℕ) (l : List ℕ) (i : ℕ) → i < length l → (get_or l i 0 ≡ d → ⊥) → tally d (set l i d) ≡ suc (tally d l)
+pub tally_add : (d : ℕ) (l : List ℕ) (i : ℕ) → i < length l → (get_or l i 0 ≡ d → ⊥) → tally d (set l i d) ≡ suc (tally d l)
 unfolding tally
-tally-add d [] i h k = absurd (not-suc-le-zero h)
-tally-add d (a ∷ l) zero h k = simp (eq-eqb d d refl, ne_eqb a d k)
-tally-add d (a ∷ l) (suc i) h k = ap (one-if (eqb a d)) (tally-add d l i (le_of_suc-le-suc h) k) ∙ one-if-suc (eqb a d) (tally d l)
+tally_add d [] i h k = absurd (not-suc-le-zero h)
+tally_add d (a ∷ l) zero h k = simp (eq-eqb d d refl, ne_eqb a d k)
+tally_add d (a ∷ l) (suc i) h k = ap (one_if (eqb a d)) (tally_add d l i (le_of_suc-le-suc h) k) ∙ one_if_suc (eqb a d) (tally d l)
 
-pub tally-less : (d : ℕ) (l : List ℕ) (i v : ℕ) → i < length l → get_or l i 0 ≡ d → (v ≡ d → ⊥) → suc (tally d (set l i v)) ≡ tally d l
+pub tally_less : (d : ℕ) (l : List ℕ) (i v : ℕ) → i < length l → get_or l i 0 ≡ d → (v ≡ d → ⊥) → suc (tally d (set l i v)) ≡ tally d l
 unfolding tally
-tally-less d [] i v h e k = absurd (not-suc-le-zero h)
-tally-less d (a ∷ l) zero v h e k = simp (eq-eqb a d e, ne_eqb v d k)
-tally-less d (a ∷ l) (suc i) v h e k =
-    sym (one-if-suc (eqb a d) (tally d (set l i v))) ∙ ap (one-if (eqb a d)) (tally-less d l i v (le_of_suc-le-suc h) e k)
+tally_less d [] i v h e k = absurd (not-suc-le-zero h)
+tally_less d (a ∷ l) zero v h e k = simp (eq-eqb a d e, ne_eqb v d k)
+tally_less d (a ∷ l) (suc i) v h e k =
+    sym (one_if_suc (eqb a d) (tally d (set l i v))) ∙ ap (one_if (eqb a d)) (tally_less d l i v (le_of_suc-le-suc h) e k)
 
-one-if-le : (b : Bool) (n m : ℕ) → n ≤ m → one-if b n ≤ suc m
-one-if-le true n m h = suc-le-suc h
-one-if-le false n m h = omega arith
+one_if_le : (b : Bool) (n m : ℕ) → n ≤ m → one_if b n ≤ suc m
+one_if_le true n m h = suc-le-suc h
+one_if_le false n m h = omega arith
 
-pub tally-le : (d : ℕ) (l : List ℕ) → tally d l ≤ length l
+pub tally_le : (d : ℕ) (l : List ℕ) → tally d l ≤ length l
 unfolding tally
-tally-le d [] = zero-le
-tally-le d (a ∷ l) = one-if-le (eqb a d) (tally d l) (length l) (tally-le d l)
+tally_le d [] = zero-le
+tally_le d (a ∷ l) = one_if_le (eqb a d) (tally d l) (length l) (tally_le d l)
 
 -- an element that is not d leaves room
-pub tally-lt : (d : ℕ) (l : List ℕ) (i : ℕ) → i < length l → (get_or l i 0 ≡ d → ⊥) → tally d l < length l
-tally-lt d l i h k = omega (arith, tally-add d l i h k, tally-le d (set l i d), length-set l i d)
+pub tally_lt : (d : ℕ) (l : List ℕ) (i : ℕ) → i < length l → (get_or l i 0 ≡ d → ⊥) → tally d l < length l
+tally_lt d l i h k = omega (arith, tally_add d l i h k, tally_le d (set l i d), length-set l i d)
 
-pub tally-all : (d : ℕ) (l : List ℕ) → ((i : ℕ) → i < length l → get_or l i 0 ≡ d) → tally d l ≡ length l
+pub tally_all : (d : ℕ) (l : List ℕ) → ((i : ℕ) → i < length l → get_or l i 0 ≡ d) → tally d l ≡ length l
 unfolding tally
-tally-all d [] h = refl
-tally-all d (a ∷ l) h = simp (eq-eqb a d (h 0 (suc-le-suc zero-le)), tally-all d l (λ i k. h (suc i) (suc-le-suc k)))
+tally_all d [] h = refl
+tally_all d (a ∷ l) h = simp (eq-eqb a d (h 0 (suc-le-suc zero-le)), tally_all d l (λ i k. h (suc i) (suc-le-suc k)))
 
-pub tally-none : (d : ℕ) (l : List ℕ) → ((i : ℕ) → get_or l i 0 ≡ d → ⊥) → tally d l ≡ 0
+pub tally_none : (d : ℕ) (l : List ℕ) → ((i : ℕ) → get_or l i 0 ≡ d → ⊥) → tally d l ≡ 0
 unfolding tally
-tally-none d [] h = refl
-tally-none d (a ∷ l) h = simp (ne_eqb a d (h 0), tally-none d l (λ i. h (suc i)))
+tally_none d [] h = refl
+tally_none d (a ∷ l) h = simp (ne_eqb a d (h 0), tally_none d l (λ i. h (suc i)))
 
 -- ---- room
 
 -- a mark that rises takes room
-pub room-less : (l : List ℕ) (i v : ℕ) → i < length l → get_or l i 0 < v → v ≤ doneMark → room (set l i v) < room l
+pub room_less : (l : List ℕ) (i v : ℕ) → i < length l → get_or l i 0 < v → v ≤ done_mark → room (set l i v) < room l
 unfolding room
-room-less [] i v h k e = absurd (not-suc-le-zero h)
-room-less (a ∷ l) zero v h k e = omega arith
-room-less (a ∷ l) (suc i) v h k e = omega (arith, room-less l i v (le_of_suc-le-suc h) k e)
+room_less [] i v h k e = absurd (not-suc-le-zero h)
+room_less (a ∷ l) zero v h k e = omega arith
+room_less (a ∷ l) (suc i) v h k e = omega (arith, room_less l i v (le_of_suc-le-suc h) k e)
 
 -- ---- the first n of k zeros
 
 abbrev pub zeros : ℕ → List ℕ
 zeros k = replicate k 0
 
-replicate-zero : (k x : ℕ) → get_or (zeros k) x 0 ≡ 0
-replicate-zero zero x = refl
-replicate-zero (suc k) zero = refl
-replicate-zero (suc k) (suc x) = replicate-zero k x
+replicate_zero : (k x : ℕ) → get_or (zeros k) x 0 ≡ 0
+replicate_zero zero x = refl
+replicate_zero (suc k) zero = refl
+replicate_zero (suc k) (suc x) = replicate_zero k x
 
-take-zero : (l : List ℕ) → ((x : ℕ) → get_or l x 0 ≡ 0) → (n x : ℕ) → get_or (take n l) x 0 ≡ 0
-take-zero l h zero x = refl
-take-zero [] h (suc n) x = refl
-take-zero (a ∷ l) h (suc n) zero = h zero
-take-zero (a ∷ l) h (suc n) (suc x) = take-zero l (λ y. h (suc y)) n x
+take_zero : (l : List ℕ) → ((x : ℕ) → get_or l x 0 ≡ 0) → (n x : ℕ) → get_or (take n l) x 0 ≡ 0
+take_zero l h zero x = refl
+take_zero [] h (suc n) x = refl
+take_zero (a ∷ l) h (suc n) zero = h zero
+take_zero (a ∷ l) h (suc n) (suc x) = take_zero l (λ y. h (suc y)) n x
 
-pub zeros-all : (k n x : ℕ) → get_or (take n (zeros k)) x 0 ≡ 0
-zeros-all k = take-zero (zeros k) (replicate-zero k)
+pub zeros_all : (k n x : ℕ) → get_or (take n (zeros k)) x 0 ≡ 0
+zeros_all k = take_zero (zeros k) (replicate_zero k)
 
-pub zeros-length : (k n : ℕ) → n ≤ k → length (take n (zeros k)) ≡ n
-zeros-length k n h = length-take-le n (zeros k) (rw length-replicate h)
+pub zeros_length : (k n : ℕ) → n ≤ k → length (take n (zeros k)) ≡ n
+zeros_length k n h = length-take-le n (zeros k) (rw length-replicate h)

@@ -6,21 +6,21 @@ use Rattle.toposort.specs.declared.Scan.{Scan}
 use Rattle.toposort.specs.declared.Turn.{Turn}
 use Rattle.toposort.specs.declared.Turn.TheVariants.{Close, Leave, Raise, Open as OpenUnseen, Merge, Meet}
 use Rattle.netlist.specs.Graph.{Reads, Depends, Loop, WellFormed, Before, Ordered}
-use Rattle.netlist.specs.Rule.{sourcesOf}
-use Rattle.netlist.specs.Settle.{readsIn}
-use Rattle.netlist.specs.Table.{flopSignal}
-use Rattle.toposort.specs.Reading.{readAt}
-use Rattle.toposort.specs.Tally.{lastMark, doneMark, tally, room}
+use Rattle.netlist.specs.Rule.{sources_of}
+use Rattle.netlist.specs.Settle.{reads_in}
+use Rattle.netlist.specs.Table.{flop_signal}
+use Rattle.toposort.specs.Reading.{read_at}
+use Rattle.toposort.specs.Tally.{last_mark, done_mark, tally, room}
 use Rattle.toposort.specs.Search.{Search}
 
 -- x is open
 pub record Open (marks : List ℕ) (x : ℕ) : Type 0 where
   pub seen : 0 < get_or marks x 0
-  pub left : get_or marks x 0 < doneMark
+  pub left : get_or marks x 0 < done_mark
 
 -- the mark of an open signal is at a place that its gate has, or past them
 abbrev pub AtPlaces : (ℕ → Gate) → List ℕ → Type 0
-AtPlaces g marks = (x : ℕ) → Open marks x → lastMark ≤ get_or marks x 0 + length (sourcesOf (g x))
+AtPlaces g marks = (x : ℕ) → Open marks x → last_mark ≤ get_or marks x 0 + length (sources_of (g x))
 
 -- buffers of N signals: each has an entry a signal
 abbrev pub Sized : ℕ → Search → Type 0
@@ -44,10 +44,10 @@ Fresh N b = Sized N b × Unseen b.marks
 
 -- the first q flip-flops are listed and done, and no other signal is seen
 pub record FlopsListed (q : ℕ) (marks order : List ℕ) : Type 0 where
-  pub first : (i : ℕ) → i < q → get_or order i 0 ≡ flopSignal i
-  pub done : (i : ℕ) → i < q → get_or marks (flopSignal i) 0 ≡ doneMark
-  pub others : (x : ℕ) → (get_or marks x 0 ≡ 0) ⊎ ((i : ℕ) × (i < q) × (x ≡ flopSignal i))
-  pub counted : q ≡ tally doneMark marks
+  pub first : (i : ℕ) → i < q → get_or order i 0 ≡ flop_signal i
+  pub done : (i : ℕ) → i < q → get_or marks (flop_signal i) 0 ≡ done_mark
+  pub others : (x : ℕ) → (get_or marks x 0 ≡ 0) ⊎ ((i : ℕ) × (i < q) × (x ≡ flop_signal i))
+  pub counted : q ≡ tally done_mark marks
 
 -- top is the last open signal
 abbrev pub IsTop : List ℕ → Scan → ℕ → Type 0
@@ -117,24 +117,24 @@ module _ (N : ℕ) (b : Search) (p : Scan) where
   abbrev pub TopReady : ℕ → Type 0
   TopReady top =
       record {
-        marks-sized : length marks ≡ N;
-        pos-sized : length pos ≡ N;
-        stack-sized : length stack ≡ N;
-        heads-sized : length heads ≡ N;
-        len-le : len ≤ N;
-        count-le : count ≤ N;
+        marks_sized : length marks ≡ N;
+        pos_sized : length pos ≡ N;
+        stack_sized : length stack ≡ N;
+        heads_sized : length heads ≡ N;
+        len_le : len ≤ N;
+        count_le : count ≤ N;
         some : 0 < count;
         top_below : top < N;
-        top-open : Open marks top;
+        top_open : Open marks top;
       }
 
 -- x is y, or depends on it
 abbrev pub Reaches : (ℕ → Gate) → ℕ → ℕ → Type 0
-Reaches g x y = (x ≡ y) ⊎ Depends (readsIn g) x y
+Reaches g x y = (x ≡ y) ⊎ Depends (reads_in g) x y
 
 -- every signal on the stack depends on y
 abbrev pub Above : (ℕ → Gate) → List ℕ → Scan → ℕ → Type 0
-Above g stack p y = (i : ℕ) → i < p.len → Depends (readsIn g) (get_or stack i 0) y
+Above g stack p y = (i : ℕ) → i < p.len → Depends (reads_in g) (get_or stack i 0) y
 
 module _ (g : ℕ → Gate) (N : ℕ) (b : Search) (p : Scan) where
   open b use {marks, pos, stack, heads, order}
@@ -144,20 +144,20 @@ module _ (g : ℕ → Gate) (N : ℕ) (b : Search) (p : Scan) where
   abbrev pub Listed : Type 0
   Listed =
       record {
-        counted : done ≡ tally doneMark marks;
-        finished : (i : ℕ) → i < done → get_or marks (get_or order i 0) 0 ≡ doneMark;
-        named : (x : ℕ) → get_or marks x 0 ≡ doneMark → Before order done x;
+        counted : done ≡ tally done_mark marks;
+        finished : (i : ℕ) → i < done → get_or marks (get_or order i 0) 0 ≡ done_mark;
+        named : (x : ℕ) → get_or marks x 0 ≡ done_mark → Before order done x;
         once : (i j : ℕ) → i < j → j < done → get_or order i 0 ≡ get_or order j 0 → ⊥;
-        after : best ≡ N → (i y : ℕ) → i < done → Reads (readsIn g) (get_or order i 0) y → Before order i y;
+        after : best ≡ N → (i y : ℕ) → i < done → Reads (reads_in g) (get_or order i 0) y → Before order i y;
       }
 
   -- the state of the search over N signals; `best` is the smallest signal known to be on a loop, or N
   pub record Components : Type 0 where
-    pub bounded : WellFormed (readsIn g) N
+    pub bounded : WellFormed (reads_in g) N
     pub sized : Sized N b
     pub next_le : next ≤ N
     pub ended : next ≡ N → depth ≡ 0
-    pub low : (x : ℕ) → get_or marks x 0 ≤ doneMark
+    pub low : (x : ℕ) → get_or marks x 0 ≤ done_mark
     pub started : (x : ℕ) → x < next → 0 < get_or marks x 0
     pub at_places : AtPlaces g marks
     pub placed : Placed N b p
@@ -165,25 +165,25 @@ module _ (g : ℕ → Gate) (N : ℕ) (b : Search) (p : Scan) where
     pub pathed : Pathed b p
     -- a signal on the stack reaches those of its component and of later ones
     pub reach : (i j : ℕ) → i < len → j < len → Within b p i j → Reaches g (get_or stack i 0) (get_or stack j 0)
-    pub looked : (x i y : ℕ) → On b p x → suc i < get_or marks x 0 → i < 6 → readAt g x i ≡ Signal y → Passed b p x y
-    pub closed : (x y : ℕ) → Closed b p x → Reads (readsIn g) x y → Closed b p y
-    pub judged : (x : ℕ) → Closed b p x → Loop (readsIn g) x → best ≤ x
-    pub best-le : best ≤ N
-    pub best-loop : best < N → Loop (readsIn g) best
+    pub looked : (x i y : ℕ) → On b p x → suc i < get_or marks x 0 → i < 6 → read_at g x i ≡ Signal y → Passed b p x y
+    pub closed : (x y : ℕ) → Closed b p x → Reads (reads_in g) x y → Closed b p y
+    pub judged : (x : ℕ) → Closed b p x → Loop (reads_in g) x → best ≤ x
+    pub best_le : best ≤ N
+    pub best_loop : best < N → Loop (reads_in g) best
     pub listed : Listed
 
   -- what the mark of the top, and the signal it reads next, say
   abbrev pub Wants : ℕ → Turn → Type 0
-  Wants top (Close at) = (get_or marks top 0 ≡ lastMark) × (at ≡ get_or pos top 0) × (get_or pos top 0 ≡ get_or heads (count - 1) 0)
-  Wants top Leave = (get_or marks top 0 ≡ lastMark) × (get_or pos top 0 ≡ get_or heads (count - 1) 0 → ⊥)
+  Wants top (Close at) = (get_or marks top 0 ≡ last_mark) × (at ≡ get_or pos top 0) × (get_or pos top 0 ≡ get_or heads (count - 1) 0)
+  Wants top Leave = (get_or marks top 0 ≡ last_mark) × (get_or pos top 0 ≡ get_or heads (count - 1) 0 → ⊥)
   Wants top Raise =
-      (get_or marks top 0 ≡ lastMark → ⊥) × ((i y : ℕ) → suc i ≡ get_or marks top 0 → readAt g top i ≡ Signal y → Closed b p y)
-  Wants top (OpenUnseen y) = (y < N) × Reads (readsIn g) top y × (get_or marks y 0 ≡ 0)
-  Wants top (Merge y) = Reads (readsIn g) top y × On b p y × (get_or pos y 0 < get_or heads (count - 1) 0)
+      (get_or marks top 0 ≡ last_mark → ⊥) × ((i y : ℕ) → suc i ≡ get_or marks top 0 → read_at g top i ≡ Signal y → Closed b p y)
+  Wants top (OpenUnseen y) = (y < N) × Reads (reads_in g) top y × (get_or marks y 0 ≡ 0)
+  Wants top (Merge y) = Reads (reads_in g) top y × On b p y × (get_or pos y 0 < get_or heads (count - 1) 0)
   Wants top (Meet y) =
-      Reads (readsIn g) top y × On b p y × (get_or heads (count - 1) 0 ≤ get_or pos y 0)
-      × (get_or marks top 0 ≡ lastMark → ⊥)
-      × ((i z : ℕ) → suc i ≡ get_or marks top 0 → readAt g top i ≡ Signal z → z ≡ y)
+      Reads (reads_in g) top y × On b p y × (get_or heads (count - 1) 0 ≤ get_or pos y 0)
+      × (get_or marks top 0 ≡ last_mark → ⊥)
+      × ((i z : ℕ) → suc i ≡ get_or marks top 0 → read_at g top i ≡ Signal z → z ≡ y)
 
 -- what the search may still do
 abbrev pub remaining : ℕ → List ℕ → Scan → ℕ
@@ -201,7 +201,7 @@ module _ (g : ℕ → Gate) (N : ℕ) where
 
   -- best is the smallest signal below N that is on a loop, or N, and then the order is topological
   pub record Least (order : List ℕ) (best : ℕ) : Type 0 where
-    pub best-le : best ≤ N
-    pub loops : best < N → Loop (readsIn g) best
-    pub least : (y : ℕ) → y < best → Loop (readsIn g) y → ⊥
-    pub ordered : best ≡ N → Ordered (readsIn g) N order
+    pub best_le : best ≤ N
+    pub loops : best < N → Loop (reads_in g) best
+    pub least : (y : ℕ) → y < best → Loop (reads_in g) y → ⊥
+    pub ordered : best ≡ N → Ordered (reads_in g) N order

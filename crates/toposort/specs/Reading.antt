@@ -5,41 +5,41 @@ use Rattle.netlist.specs.declared.Source.TheVariants.{Constant, Input, Signal as
 use Rattle.netlist.specs.declared.Gate.{Gate}
 use Rattle.toposort.specs.declared.Read.{Read}
 use Rattle.toposort.specs.declared.Read.TheVariants.{Signal, Nothing}
-use Rattle.netlist.specs.Rule.{sourcesOf}
-use Rattle.netlist.specs.Table.{rowLength, selectHead}
-use Rattle.toposort.specs.Tally.{lastMark}
+use Rattle.netlist.specs.Rule.{sources_of}
+use Rattle.netlist.specs.Table.{row_length, select_head}
+use Rattle.toposort.specs.Tally.{last_mark}
 
 -- "reading a pin is reading the signal that drives it, if any"
-unfoldable pub asRead : Source → Read
-asRead (Constant b) = Nothing
-asRead (Input j) = Nothing
-asRead (SignalSource y) = Signal y
+unfoldable pub as_read : Source → Read
+as_read (Constant b) = Nothing
+as_read (Input j) = Nothing
+as_read (SignalSource y) = Signal y
 
 -- what is read at place i of some sources
-unfoldable pub readIn : List Source → ℕ → Read
-readIn [] i = Nothing
-readIn (s ∷ ss) zero = asRead s
-readIn (s ∷ ss) (suc i) = readIn ss i
+unfoldable pub read_in : List Source → ℕ → Read
+read_in [] i = Nothing
+read_in (s ∷ ss) zero = as_read s
+read_in (s ∷ ss) (suc i) = read_in ss i
 
 -- what signal x reads at place i of six, from its sixth source down to its first: the places that its gate doesn't have come first
-abbrev pub readAt : (ℕ → Gate) → ℕ → ℕ → Read
-readAt g x i = readIn (sourcesOf (g x)) (5 - i)
+abbrev pub read_at : (ℕ → Gate) → ℕ → ℕ → Read
+read_at g x i = read_in (sources_of (g x)) (5 - i)
 
 -- the gate of signal x has a source at place i
 abbrev pub HasPlace : (ℕ → Gate) → ℕ → ℕ → Type 0
-HasPlace g x i = 5 - i < length (sourcesOf (g x))
+HasPlace g x i = 5 - i < length (sources_of (g x))
 
 -- the head of signal x's row
 abbrev pub head_of : List ℕ → ℕ → ℕ
-head_of table x = get_or table (rowLength * x) 0
+head_of table x = get_or table (row_length * x) 0
 
 -- how many sources a gate with this head reads, in a gate table of n slices
-unfoldable pub placeCount : ℕ → ℕ → ℕ
-placeCount n head =
+unfoldable pub place_count : ℕ → ℕ → ℕ
+place_count n head =
     cond (ltb head (4 * n)) 6
-    (cond (ltb head (selectHead n)) 0
-    (cond (eqb head (selectHead n)) 3 (cond (eqb head (selectHead n + 1)) 2 (cond (eqb head (selectHead n + 2)) 1 0))))
+    (cond (ltb head (select_head n)) 0
+    (cond (eqb head (select_head n)) 3 (cond (eqb head (select_head n + 1)) 2 (cond (eqb head (select_head n + 2)) 1 0))))
 
 -- the mark of a signal that is opened, past the places that its gate doesn't have
-abbrev pub firstMark : ℕ → ℕ → ℕ
-firstMark n head = lastMark - placeCount n head
+abbrev pub first_mark : ℕ → ℕ → ℕ
+first_mark n head = last_mark - place_count n head

@@ -14,27 +14,27 @@ pub record Search : Type 0 where
   pub order : List ℕ
 
 -- the buffers by their elements
-abbrev pub searchOf : List ℕ → List ℕ → List ℕ → List ℕ → List ℕ → List ℕ → Search
-searchOf marks pos stack heads path order =
+abbrev pub search_of : List ℕ → List ℕ → List ℕ → List ℕ → List ℕ → List ℕ → Search
+search_of marks pos stack heads path order =
     record { marks = marks; pos = pos; stack = stack; heads = heads; path = path; order = order }
 
 -- the buffers that a function holds when it is called, and as it leaves them
-abbrev pub searchIn : Held → Held → Held → Held → Held → Held → Search
-searchIn marks pos stack heads path order = searchOf marks.now pos.now stack.now heads.now path.now order.now
+abbrev pub search_in : Held → Held → Held → Held → Held → Held → Search
+search_in marks pos stack heads path order = search_of marks.now pos.now stack.now heads.now path.now order.now
 
-abbrev pub searchOut : Lent → Lent → Lent → Lent → Lent → Lent → Search
-searchOut marks pos stack heads path order = searchOf (left marks) (left pos) (left stack) (left heads) (left path) (left order)
+abbrev pub search_out : Lent → Lent → Lent → Lent → Lent → Lent → Search
+search_out marks pos stack heads path order = search_of (left marks) (left pos) (left stack) (left heads) (left path) (left order)
 
 -- the same of a function that holds no path and no order, and leaves what it holds as it was
-abbrev pub stackIn : Held → Held → Held → Held → Search
-stackIn marks pos stack heads = searchOf marks.now pos.now stack.now heads.now [] []
+abbrev pub stack_in : Held → Held → Held → Held → Search
+stack_in marks pos stack heads = search_of marks.now pos.now stack.now heads.now [] []
 
-abbrev pub stackWas : Lent → Lent → Lent → Lent → Search
-stackWas marks pos stack heads = searchOf (was marks) (was pos) (was stack) (was heads) [] []
+abbrev pub stack_was : Lent → Lent → Lent → Lent → Search
+stack_was marks pos stack heads = search_of (was marks) (was pos) (was stack) (was heads) [] []
 
 -- a search that goes on with another smallest signal known to be on a loop
-abbrev pub withBest : Scan → ℕ → Scan
-withBest p best = record { next = p.next; depth = p.depth; len = p.len; count = p.count; done = p.done; best = best }
+abbrev pub with_best : Scan → ℕ → Scan
+with_best p best = record { next = p.next; depth = p.depth; len = p.len; count = p.count; done = p.done; best = best }
 
 -- a search whose top is done, with the stack cut to a length and a count of components
 abbrev pub cut_to : Scan → ℕ → ℕ → Scan

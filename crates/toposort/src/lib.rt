@@ -2,12 +2,12 @@
 ghost use Rattle.std.specs.Prelude.{◌≡◌, ◌+◌, ◌*◌, ◌≤◌, ◌<◌, ◌⊎◌, length, get_or, set};
 ghost use Rattle.lent.specs.Lent.{was, left};
 ghost use Rattle.netlist.specs.Graph.{WellFormed};
-ghost use Rattle.netlist.specs.Settle.{readsIn};
-ghost use Rattle.netlist.specs.Table.{signalLimit, signalCount, IsTable, source_of, gateOf, FlopRows, FlopsFirst};
-ghost use Rattle.toposort.specs.Tally.{doneMark};
-ghost use Rattle.toposort.specs.Reading.{asRead, readAt, HasPlace, head_of, placeCount, firstMark};
+ghost use Rattle.netlist.specs.Settle.{reads_in};
+ghost use Rattle.netlist.specs.Table.{signal_limit, signal_count, IsTable, source_of, gate_of, FlopRows, FlopsFirst};
+ghost use Rattle.toposort.specs.Tally.{done_mark};
+ghost use Rattle.toposort.specs.Reading.{as_read, read_at, HasPlace, head_of, place_count, first_mark};
 ghost use Rattle.toposort.specs.Answer.{OrderOrLoop};
-ghost use Rattle.toposort.specs.Search.{searchIn, searchOut, stackIn, stackWas, withBest, cut_to};
+ghost use Rattle.toposort.specs.Search.{search_in, search_out, stack_in, stack_was, with_best, cut_to};
 ghost use Rattle.toposort.specs.Components.{Unseen, Fresh, FlopsListed, AtPlaces, IsTop, TopReady, Above, Components, Wants, Moved, Least};
 
 use netlist::{FIRST_FLOP, ROW, SIGNAL_LIMIT, SIGNAL_WIRE, SLICE_SIGNALS};
@@ -45,8 +45,8 @@ fn wide16(x: u16) -> usize
 
 // What is read where a source has this number.
 fn read_of(n: usize, code: usize) -> Read
-    requires { signalCount n ≤ signalLimit }
-    ensures { result ≡ asRead (source_of n code) }
+    requires { signal_count n ≤ signal_limit }
+    ensures { result ≡ as_read (source_of n code) }
 {
     let signal = (SIGNAL_WIRE <= code) & (code < SIGNAL_WIRE + SLICE_SIGNALS * n);
     if signal {
@@ -58,8 +58,8 @@ fn read_of(n: usize, code: usize) -> Read
 
 // How many sources a gate with this head reads.
 fn place_count(n: usize, head: usize) -> usize
-    requires { signalCount n ≤ signalLimit }
-    ensures { result ≡ placeCount n head }
+    requires { signal_count n ≤ signal_limit }
+    ensures { result ≡ place_count n head }
 {
     if head < 4 * n {
         6
@@ -78,8 +78,8 @@ fn place_count(n: usize, head: usize) -> usize
 
 // What signal x reads at place i, which its gate has, from its sixth source down to its first.
 fn read_at(table: &[u16], n: usize, x: usize, i: usize) -> Read
-    requires { IsTable n table.now × (x < signalCount n) × (i < 6) × HasPlace (gateOf table.now n) x i }
-    ensures { result ≡ readAt (gateOf (was table) n) x i }
+    requires { IsTable n table.now × (x < signal_count n) × (i < 6) × HasPlace (gate_of table.now n) x i }
+    ensures { result ≡ read_at (gate_of (was table) n) x i }
 {
     let at = ROW * x + (6 - i);
     let code = wide16(table[at]);
@@ -88,8 +88,8 @@ fn read_at(table: &[u16], n: usize, x: usize, i: usize) -> Read
 
 // The mark of signal x when it is opened, past the places that its gate doesn't have.
 fn first_mark(table: &[u16], n: usize, x: usize) -> u8
-    requires { IsTable n table.now × (x < signalCount n) }
-    ensures { result ≡ firstMark n (head_of (was table) x) }
+    requires { IsTable n table.now × (x < signal_count n) }
+    ensures { result ≡ first_mark n (head_of (was table) x) }
 {
     let head = wide16(table[ROW * x]);
     let places = place_count(n, head);
@@ -132,9 +132,9 @@ fn next_turn(
     p: Scan,
     top: usize,
 ) -> Turn
-    requires table { IsTable n table.now × WellFormed (readsIn (gateOf table.now n)) (signalCount n) × AtPlaces (gateOf table.now n) marks.now }
-    requires top_ready { TopReady (signalCount n) (stackIn marks pos stack heads) p top }
-    ensures { Wants (gateOf (was table) n) (signalCount n) (stackWas marks pos stack heads) p top result }
+    requires table { IsTable n table.now × WellFormed (reads_in (gate_of table.now n)) (signal_count n) × AtPlaces (gate_of table.now n) marks.now }
+    requires top_ready { TopReady (signal_count n) (stack_in marks pos stack heads) p top }
+    ensures { Wants (gate_of (was table) n) (signal_count n) (stack_was marks pos stack heads) p top result }
 {
     let len = p.len;
     let last = p.count - 1;
@@ -181,10 +181,10 @@ fn open_signal(
     p: Scan,
     y: usize,
 ) -> Scan
-    requires components { Components (gateOf table.now n) (signalCount n) (searchIn marks pos stack heads path order) p }
-    requires table { IsTable n table.now × (p.next < signalCount n) × (y < signalCount n) × (get_or marks.old y 0 ≡ 0) }
-    requires above { Above (gateOf table.now n) stack.old p y }
-    ensures { Moved (gateOf (was table) n) (signalCount n) (was marks) (was order) p (searchOut marks pos stack heads path order) result }
+    requires components { Components (gate_of table.now n) (signal_count n) (search_in marks pos stack heads path order) p }
+    requires table { IsTable n table.now × (p.next < signal_count n) × (y < signal_count n) × (get_or marks.old y 0 ≡ 0) }
+    requires above { Above (gate_of table.now n) stack.old p y }
+    ensures { Moved (gate_of (was table) n) (signal_count n) (was marks) (was order) p (search_out marks pos stack heads path order) result }
 {
     let len = p.len;
     let count = p.count;
@@ -212,8 +212,8 @@ fn close_top(
     count: usize,
 ) -> Scan
     requires top_in_bounds { (top < length marks.old) × (p.done < length order.old) }
-    requires top_lt_signal_limit { (top < signalLimit) × (p.done < signalLimit) × (0 < p.depth) }
-    ensures marks_value { (left marks ≡ set (was marks) top doneMark) × (left order ≡ set (was order) p.done top) }
+    requires top_lt_signal_limit { (top < signal_limit) × (p.done < signal_limit) × (0 < p.depth) }
+    ensures marks_value { (left marks ≡ set (was marks) top done_mark) × (left order ≡ set (was order) p.done top) }
     ensures value { result ≡ cut_to p len count }
 {
     let depth = p.depth;
@@ -230,8 +230,8 @@ fn close_top(
 
 // The top's read is done: its mark rises, and best is the smallest signal now known to be on a loop.
 fn raise_top(marks: &mut [u8], p: Scan, top: usize, best: usize) -> Scan
-    requires { (top < length marks.old) × (top < signalLimit) × (get_or marks.old top 0 < doneMark) }
-    ensures { (left marks ≡ set (was marks) top (get_or (was marks) top 0 + 1)) × (result ≡ withBest p best) }
+    requires { (top < length marks.old) × (top < signal_limit) × (get_or marks.old top 0 < done_mark) }
+    ensures { (left marks ≡ set (was marks) top (get_or (was marks) top 0 + 1)) × (result ≡ with_best p best) }
 {
     marks[top] = marks[top] + 1;
     let mut q = p;
@@ -261,9 +261,9 @@ fn take_turn(
     p: Scan,
     top: usize,
 ) -> Scan
-    requires components { Components (gateOf table.now n) (signalCount n) (searchIn marks pos stack heads path order) p }
-    requires table { IsTable n table.now × (p.next < signalCount n) × IsTop path.old p top }
-    ensures { Moved (gateOf (was table) n) (signalCount n) (was marks) (was order) p (searchOut marks pos stack heads path order) result }
+    requires components { Components (gate_of table.now n) (signal_count n) (search_in marks pos stack heads path order) p }
+    requires table { IsTable n table.now × (p.next < signal_count n) × IsTop path.old p top }
+    ensures { Moved (gate_of (was table) n) (signal_count n) (was marks) (was order) p (search_out marks pos stack heads path order) result }
 {
     let len = p.len;
     let count = p.count;
@@ -294,9 +294,9 @@ fn scan_step(
     order: &mut [u16],
     p: Scan,
 ) -> Scan
-    requires components { Components (gateOf table.now n) (signalCount n) (searchIn marks pos stack heads path order) p }
-    requires table { IsTable n table.now × (p.next < signalCount n) }
-    ensures { Moved (gateOf (was table) n) (signalCount n) (was marks) (was order) p (searchOut marks pos stack heads path order) result }
+    requires components { Components (gate_of table.now n) (signal_count n) (search_in marks pos stack heads path order) p }
+    requires table { IsTable n table.now × (p.next < signal_count n) }
+    ensures { Moved (gate_of (was table) n) (signal_count n) (was marks) (was order) p (search_out marks pos stack heads path order) result }
 {
     let next = p.next;
     let depth = p.depth;
@@ -315,7 +315,7 @@ fn scan_step(
 
 // Lists the signals of the flip-flops, which read nothing, ascending, and marks them as done.
 fn list_flops(n: usize, marks: &mut [u8], order: &mut [u16])
-    requires n_bound { (signalCount n ≤ signalLimit) × (length marks.old ≡ signalCount n) × (length order.old ≡ signalCount n) }
+    requires n_bound { (signal_count n ≤ signal_limit) × (length marks.old ≡ signal_count n) × (length order.old ≡ signal_count n) }
     requires unseen { Unseen marks.old }
     ensures { FlopsListed (8 * n) (left marks) (left order) }
 {
@@ -340,9 +340,9 @@ fn scan_all(
     path: &mut [u16],
     order: &mut [u16],
 ) -> usize
-    requires table { IsTable n table.now × WellFormed (readsIn (gateOf table.now n)) (signalCount n) }
-    requires flop_rows { FlopRows n table.now × Fresh (signalCount n) (searchIn marks pos stack heads path order) }
-    ensures { Least (gateOf (was table) n) (signalCount n) (left order) result × FlopsFirst n (left order) }
+    requires table { IsTable n table.now × WellFormed (reads_in (gate_of table.now n)) (signal_count n) }
+    requires flop_rows { FlopRows n table.now × Fresh (signal_count n) (search_in marks pos stack heads path order) }
+    ensures { Least (gate_of (was table) n) (signal_count n) (left order) result × FlopsFirst n (left order) }
 {
     let size = SLICE_SIGNALS * n;
     let flops = 8 * n;
@@ -363,9 +363,9 @@ fn scan_all(
 
 // The smallest signal on a loop, or a topological order with the flip-flops first, of the netlist of n slices in the gate table, in time linear in n.
 pub fn order_or_loop(table: &[u16], n: usize, order: &mut [u16]) -> Sorted
-    requires table { IsTable n table.now × FlopRows n table.now × (length order.old ≡ signalCount n) }
-    requires well_formed { WellFormed (readsIn (gateOf table.now n)) (signalCount n) }
-    ensures { OrderOrLoop (gateOf (was table) n) n (left order) result }
+    requires table { IsTable n table.now × FlopRows n table.now × (length order.old ≡ signal_count n) }
+    requires well_formed { WellFormed (reads_in (gate_of table.now n)) (signal_count n) }
+    ensures { OrderOrLoop (gate_of (was table) n) n (left order) result }
 {
     let mut marks = [0u8; SIGNAL_LIMIT];
     let mut pos = [0u16; SIGNAL_LIMIT];

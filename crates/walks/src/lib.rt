@@ -4,11 +4,11 @@ ghost use Rattle.std.specs.Prelude.{◌≡◌, ◌+◌, ◌*◌, ◌-◌, ◌≤
 ghost use Rattle.lent.specs.Lent.{was, left};
 ghost use Rattle.lent.specs.Put.{Put, PutAll};
 ghost use Rattle.netlist.specs.Rule.{bit_at};
-ghost use Rattle.netlist.specs.Settle.{isMarked};
-ghost use Rattle.netlist.specs.Table.{rowLength, signalLimit, signalCount, inputRoom, inputWire, wireCount, source_of, IsTable, gateOf};
-ghost use Rattle.netlist.specs.Wires.{IsWires, valuesOn, inputsOn};
+ghost use Rattle.netlist.specs.Settle.{is_marked};
+ghost use Rattle.netlist.specs.Table.{row_length, signal_limit, signal_count, input_room, input_wire, wire_count, source_of, IsTable, gate_of};
+ghost use Rattle.netlist.specs.Wires.{IsWires, values_on, inputs_on};
 ghost use Rattle.evaluation.specs.Numbers.{Bits};
-ghost use Rattle.walks.specs.Marked.{NumbersFit, sourceReached, anyReached, gateReached};
+ghost use Rattle.walks.specs.Marked.{NumbersFit, source_reached, any_reached, gate_reached};
 ghost use Rattle.walks.specs.Walks.{Walkable, StillWires, FlopsOn, SettledOn, SettledBy, EditedOn, EditedBy};
 
 use netlist::{FIRST_FLOP, ROW, SIGNAL_LIMIT, SIGNAL_WIRE, SLICE_SIGNALS, WIRE_LIMIT};
@@ -27,9 +27,9 @@ fn copy_to(to: &mut [u8], at: usize, from: &[u8])
 
 // Lays the two constants and the outside inputs on the wires of n slices.
 fn lay_inputs(n: usize, inputs: &[u8], wires: &mut [u8])
-    requires n_bound { (signalCount n ≤ signalLimit) × (length wires.old ≡ wireCount n (length inputs.now)) }
+    requires n_bound { (signal_count n ≤ signal_limit) × (length wires.old ≡ wire_count n (length inputs.now)) }
     requires bits { Bits inputs.now × Bits wires.old }
-    ensures { IsWires n (length (was inputs)) (left wires) × (inputsOn n (left wires) ≡ was inputs) }
+    ensures { IsWires n (length (was inputs)) (left wires) × (inputs_on n (left wires) ≡ was inputs) }
 {
     wires[0] = 0;
     wires[1] = 1;
@@ -38,16 +38,16 @@ fn lay_inputs(n: usize, inputs: &[u8], wires: &mut [u8])
 
 // Lays a value table on wires.
 fn lay_values(n: usize, m: usize, values: &[u8], wires: &mut [u8])
-    requires { (signalCount n ≤ signalLimit) × (length values.now ≡ signalCount n) × Bits values.now × IsWires n m wires.old }
-    ensures { StillWires n m (was wires) (left wires) × (valuesOn n (left wires) ≡ was values) }
+    requires { (signal_count n ≤ signal_limit) × (length values.now ≡ signal_count n) × Bits values.now × IsWires n m wires.old }
+    ensures { StillWires n m (was wires) (left wires) × (values_on n (left wires) ≡ was values) }
 {
     copy_to(wires, SIGNAL_WIRE, values);
 }
 
 // Reads the value table off the wires.
 fn read_values(n: usize, wires: &[u8], values: &mut [u8])
-    requires { (signalCount n ≤ signalLimit) × (inputWire n ≤ length wires.now) × (length values.old ≡ signalCount n) }
-    ensures { left values ≡ valuesOn n (was wires) }
+    requires { (signal_count n ≤ signal_limit) × (input_wire n ≤ length wires.now) × (length values.old ≡ signal_count n) }
+    ensures { left values ≡ values_on n (was wires) }
 {
     let end = SIGNAL_WIRE + SLICE_SIGNALS * n;
     copy_to(values, 0, &wires[SIGNAL_WIRE..end]);
@@ -67,7 +67,7 @@ fn spread_byte(wires: &mut [u8], at: usize, byte: u8)
 
 // Puts the stored bits of n slices on the wires of the flip-flops.
 fn spread_flops(flops: &[u8], n: usize, m: usize, wires: &mut [u8])
-    requires { (signalCount n ≤ signalLimit) × (length flops.now ≡ n) × IsWires n m wires.old }
+    requires { (signal_count n ≤ signal_limit) × (length flops.now ≡ n) × IsWires n m wires.old }
     ensures { FlopsOn n m (was flops) n (was wires) (left wires) }
 {
     let mut s = 0;
@@ -115,8 +115,8 @@ pub fn settle_by(
     values: &mut [u8],
     wires: &mut [u8],
 )
-    requires walkable { Walkable n (length inputs.now) table.now order.now × (length flops.now ≡ n) × (length values.old ≡ signalCount n) }
-    requires wires_len { (length wires.old ≡ wireCount n (length inputs.now)) × Bits inputs.now × Bits wires.old }
+    requires walkable { Walkable n (length inputs.now) table.now order.now × (length flops.now ≡ n) × (length values.old ≡ signal_count n) }
+    requires wires_len { (length wires.old ≡ wire_count n (length inputs.now)) × Bits inputs.now × Bits wires.old }
     ensures { SettledBy n (was table) (was contents) (was flops) (was inputs) (left values) (left wires) }
 {
     let m = inputs.len();
@@ -127,7 +127,7 @@ pub fn settle_by(
 
 // A mark that is set; past the end none is.
 fn is_marked(marks: &[u8], x: usize) -> bool
-    ensures { result ≡ isMarked (was marks) x }
+    ensures { result ≡ is_marked (was marks) x }
 {
     if x < marks.len() { 0 < marks[x] } else { false }
 }
@@ -141,9 +141,9 @@ fn past(wire: usize, first: usize) -> usize
 
 // Whether the source of a number is a marked input or a marked signal. Both marks are read before their tests count, so that it takes no branch.
 fn number_reached(n: usize, number: u16, changed: &[u8], marks: &[u8]) -> bool
-    requires n_bound { (signalCount n ≤ signalLimit) × (length changed.now ≡ inputRoom) × (length marks.now ≡ signalLimit) }
-    requires number_bound { number < wireCount n inputRoom }
-    ensures { result ≡ sourceReached (was changed) (was marks) (source_of n number) }
+    requires n_bound { (signal_count n ≤ signal_limit) × (length changed.now ≡ input_room) × (length marks.now ≡ signal_limit) }
+    requires number_bound { number < wire_count n input_room }
+    ensures { result ≡ source_reached (was changed) (was marks) (source_of n number) }
 {
     let wire = number as usize;
     let first_input = SIGNAL_WIRE + SLICE_SIGNALS * n;
@@ -156,9 +156,9 @@ fn number_reached(n: usize, number: u16, changed: &[u8], marks: &[u8]) -> bool
 
 // Whether the source of one of the k numbers from place i is.
 fn any_reached(n: usize, numbers: &[u16], i: usize, k: usize, changed: &[u8], marks: &[u8]) -> bool
-    requires n_bound { (signalCount n ≤ signalLimit) × (length changed.now ≡ inputRoom) × (length marks.now ≡ signalLimit) }
+    requires n_bound { (signal_count n ≤ signal_limit) × (length changed.now ≡ input_room) × (length marks.now ≡ signal_limit) }
     requires k_in_bounds { (i + k ≤ length numbers.now) × NumbersFit n numbers.now i k }
-    ensures { result ≡ anyReached n (sourceReached (was changed) (was marks)) (was numbers) i k }
+    ensures { result ≡ any_reached n (source_reached (was changed) (was marks)) (was numbers) i k }
 {
     let mut found = false;
     let mut j = k;
@@ -178,9 +178,9 @@ fn gate_reached(
     edited: &[u8],
     marks: &[u8],
 ) -> bool
-    requires table { IsTable n table.now × (x < signalCount n) × NumbersFit n table.now (rowLength * x + 1) 6 }
-    requires changed_len { (length changed.now ≡ inputRoom) × (length marks.now ≡ signalLimit) }
-    ensures { result ≡ gateReached (was changed) (was edited) (was marks) (gateOf (was table) n x) }
+    requires table { IsTable n table.now × (x < signal_count n) × NumbersFit n table.now (row_length * x + 1) 6 }
+    requires changed_len { (length changed.now ≡ input_room) × (length marks.now ≡ signal_limit) }
+    ensures { result ≡ gate_reached (was changed) (was edited) (was marks) (gate_of (was table) n x) }
 {
     let at = ROW * x;
     let head = table[at] as usize;
@@ -214,7 +214,7 @@ fn edit_wires(
     edited: &[u8],
     wires: &mut [u8],
 )
-    requires { Walkable n m table.now order.now × IsWires n m wires.old × (m ≤ inputRoom) × (length changed.now ≡ inputRoom) }
+    requires { Walkable n m table.now order.now × IsWires n m wires.old × (m ≤ input_room) × (length changed.now ≡ input_room) }
     ensures { EditedOn n m (was table) (was contents) (was changed) (was edited) (was wires) (left wires) }
 {
     let mut marks = [0u8; SIGNAL_LIMIT];
@@ -244,8 +244,8 @@ pub fn edit_by(
     changed: &[u8],
     edited: &[u8],
 )
-    requires walkable { Walkable n (length inputs.now) table.now order.now × (length values.old ≡ signalCount n) }
-    requires inputs_len_bound { (length inputs.now ≤ inputRoom) × (length changed.now ≡ inputRoom) × Bits inputs.now × Bits values.old }
+    requires walkable { Walkable n (length inputs.now) table.now order.now × (length values.old ≡ signal_count n) }
+    requires inputs_len_bound { (length inputs.now ≤ input_room) × (length changed.now ≡ input_room) × Bits inputs.now × Bits values.old }
     ensures { EditedBy n (was table) (was contents) (was inputs) (was changed) (was edited) (was values) (left values) }
 {
     let m = inputs.len();

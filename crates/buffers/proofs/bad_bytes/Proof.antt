@@ -7,9 +7,9 @@ use native.Mathlib.Omega.{arith}
 use borrow.Author.Rules.{rules}
 use lib.Dec.{ltb}
 use lib.ListN.{length, get_or}
-use Rattle.slicefile.specs.Lists.{anyBelow}
+use Rattle.slicefile.specs.Lists.{any_below}
 use Rattle.slicefile.proofs.Tests.{any_next}
-use Rattle.buffers.specs.Buffers.{badBytes}
+use Rattle.buffers.specs.Buffers.{bad_bytes}
 use Rattle.buffers.proofs.bad_bytes.Statement.{statement}
 use Rattle.buffers.proofs.bad_bytes.Tie as tie
 
@@ -17,13 +17,13 @@ abbrev bad : List ℕ → ℕ → Bool
 bad bytes i = ltb 1 (get_or bytes i 0)
 
 abbrev invariant-loop : tie.invariant-loop
-invariant-loop bytes found₀ i₀ found i = (i ≤ length bytes) × (found ≡ anyBelow i (bad bytes))
+invariant-loop bytes found₀ i₀ found i = (i ≤ length bytes) × (found ≡ any_below i (bad bytes))
 
 abbrev decreases-loop : tie.decreases-loop
 decreases-loop bytes found₀ i₀ found i = length bytes - i
 
 loop-holds : tie.Need-loop-init invariant-loop decreases-loop
-unfolding anyBelow
+unfolding any_below
 loop-holds c = (search rules, refl)
 
 shared-slice-read-found : tie.Need-shared-slice-read-found invariant-loop decreases-loop
@@ -39,11 +39,11 @@ loop-again : tie.Need-loop-preserved invariant-loop decreases-loop
 loop-again c = (search rules, any_next _ _ refl c.before.before.loop.invariant.1)
 
 returns : tie.Need-returns invariant-loop decreases-loop
-unfolding badBytes
+unfolding bad_bytes
 returns c =
     let at = c.before.loop in
     let e : at.i ≡ length c.before.before.args.bytes.now = omega arith in
     rw (at.invariant.1, e)
 
-pub bad-bytes-spec : {M : Type 1} → statement M
-bad-bytes-spec = tie.close (tie.spec invariant-loop decreases-loop loop-holds shared-slice-read-found add-i loop-less loop-again returns)
+pub bad_bytes_spec : {M : Type 1} → statement M
+bad_bytes_spec = tie.close (tie.spec invariant-loop decreases-loop loop-holds shared-slice-read-found add-i loop-less loop-again returns)

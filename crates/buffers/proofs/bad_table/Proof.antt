@@ -13,8 +13,8 @@ returns c = simp (le-leb _ _ c.if1.true)
 bad-word-requires : tie.Need-bad-word-requires
 bad-word-requires c κs = search rules
 
-returns-2 : tie.Need-returns-2
-returns-2 c = simp (lt-leb _ _ c.before.if1.false, c.bad-word.ensures)
+returns_2 : tie.Need-returns-2
+returns_2 c = simp (lt-leb _ _ c.before.if1.false, c.bad-word.ensures)
 
-pub bad-table-spec : {M : Type 1} → statement M
-bad-table-spec = tie.close (tie.spec mul-if1 returns bad-word-requires returns-2)
+pub bad_table_spec : {M : Type 1} → statement M
+bad_table_spec = tie.close (tie.spec mul-if1 returns bad-word-requires returns_2)

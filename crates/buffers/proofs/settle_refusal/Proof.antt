@@ -23,17 +23,17 @@ bad-words-requires c κs =
     let same = sym e.before.bad-lengths.ensures ∙ e.if1.false in
     (b.requires.0, b.requires.1, (lengths b.args.n b.args.m _ b.args.inputs.now b.args.values.now same).contents)
 
-returns-2 : tie.Need-returns-2
-returns-2 c =
+returns_2 : tie.Need-returns-2
+returns_2 c =
     let k = c.before in
     let e = k.before.before in
     simp (← e.before.bad-lengths.ensures, e.if1.false, ← k.before.bad-bytes.ensures, ← k.bad-words.ensures, c.if2.true)
 
-returns-3 : tie.Need-returns-3
-returns-3 c =
+returns_3 : tie.Need-returns-3
+returns_3 c =
     let k = c.before in
     let e = k.before.before in
     simp (← e.before.bad-lengths.ensures, e.if1.false, ← k.before.bad-bytes.ensures, ← k.bad-words.ensures, c.if2.false)
 
-pub settle-refusal-spec : {M : Type 1} → statement M
-settle-refusal-spec = tie.close (tie.spec bad-lengths-requires returns bad-bytes-requires bad-words-requires returns-2 returns-3)
+pub settle_refusal_spec : {M : Type 1} → statement M
+settle_refusal_spec = tie.close (tie.spec bad-lengths-requires returns bad-bytes-requires bad-words-requires returns_2 returns_3)

@@ -5,17 +5,17 @@ use Prim.Native.Nat.{ℕ, ◌*◌, ◌/◌, ◌%◌, ◌≤◌, ◌-◌}
 use native.Mathlib.Omega.{arith}
 use borrow.Author.Rules.{rules}
 use lib.ListN.{length, length-set}
-use Rattle.slicefile.specs.Format.{contentsWord}
-use Rattle.column.specs.Clock.{powerUp}
-use Rattle.column.specs.File.{sliceBody}
-use Rattle.column.proofs.SoundLaws.{SoundFile, sound-file, body-length}
-use Rattle.slicefile.proofs.Filling.{Filled, filled_next, filled-all}
+use Rattle.slicefile.specs.Format.{contents_word}
+use Rattle.column.specs.Clock.{power_up}
+use Rattle.column.specs.File.{slice_body}
+use Rattle.column.proofs.SoundLaws.{SoundFile, sound_file, body_length_lem}
+use Rattle.slicefile.proofs.Filling.{Filled, filled_next, filled_all}
 use Rattle.calls.proofs.fill_contents.Statement.{statement}
 use Rattle.calls.proofs.fill_contents.Tie as tie
 
 -- the contents of table t
 abbrev word : List ℕ → ℕ → ℕ
-word file t = contentsWord (sliceBody file (t / 4)) (t % 4)
+word file t = contents_word (slice_body file (t / 4)) (t % 4)
 
 abbrev invariant-loop : tie.invariant-loop
 invariant-loop file n m contents₀ t₀ contents t = (t ≤ 4 * n) × (length contents ≡ 4 * n) × Filled (word file) t contents
@@ -24,13 +24,13 @@ abbrev decreases-loop : tie.decreases-loop
 decreases-loop file n m contents₀ t₀ contents t = 4 * n - t
 
 fine : (c : tie.Start invariant-loop decreases-loop) → SoundFile c.args.file.now c.args.n c.args.m
-fine c = sound-file c.args.file.now c.requires.0
+fine c = sound_file c.args.file.now c.requires.0
 
 loop-holds : tie.Need-loop-init invariant-loop decreases-loop
 loop-holds c = (search rules, c.before.before.requires.1, λ i l. absurd (omega arith))
 
 mul-loop : tie.Need-overflow-mul-loop invariant-loop decreases-loop
-mul-loop c = omega (arith, (fine c.before.before.before).slices-fit)
+mul-loop c = omega (arith, (fine c.before.before.before).slices_fit)
 
 slice-body-requires : tie.Need-slice-body-requires invariant-loop decreases-loop
 slice-body-requires c κs = (c.before.before.before.before.requires.0, omega arith)
@@ -38,7 +38,7 @@ slice-body-requires c κs = (c.before.before.before.before.requires.0, omega ari
 contents-word-requires : tie.Need-contents-word-requires invariant-loop decreases-loop
 contents-word-requires c κs =
     let b = c.before.before.before.before.before in
-    (omega (arith, ap length c.slice-body.ensures, body-length b.args.file.now (fine b) (c.before.before.loop.t / 4) (omega arith)), omega arith)
+    (omega (arith, ap length c.slice-body.ensures, body_length_lem b.args.file.now (fine b) (c.before.before.loop.t / 4) (omega arith)), omega arith)
 
 mul-contents : tie.Need-overflow-mul-contents invariant-loop decreases-loop
 mul-contents c = search rules
@@ -56,22 +56,22 @@ loop-again : tie.Need-loop-preserved invariant-loop decreases-loop
 loop-again c =
     let k = c.before in
     let at = k.before.before.loop in
-    let e = c.contents-word.ensures ∙ ap (λ (body : List ℕ). contentsWord body (at.t % 4)) k.slice-body.ensures in
+    let e = c.contents-word.ensures ∙ ap (λ (body : List ℕ). contents_word body (at.t % 4)) k.slice-body.ensures in
     (search rules, simp length-set at.invariant.1, filled_next _ at.t at.contents _ (omega (arith, at.invariant.1)) e at.invariant.2)
 
 same_length : tie.Need-same-length invariant-loop decreases-loop
 same_length c = c.before.loop.invariant.1 ∙ sym c.before.before.before.before.requires.1
 
 returns : tie.Need-returns invariant-loop decreases-loop
-unfolding powerUp
+unfolding power_up
 returns c =
     let at = c.before.loop in
     let b = c.before.before.before.before in
     let e : at.t ≡ 4 * b.args.n = omega arith in
-    rw (fine b).count (filled-all (word b.args.file.now) (4 * b.args.n) at.contents at.invariant.1 (rw e at at.invariant.2))
+    rw (fine b).count (filled_all (word b.args.file.now) (4 * b.args.n) at.contents at.invariant.1 (rw e at at.invariant.2))
 
-pub fill-contents-spec : {M : Type 1} → statement M
-fill-contents-spec =
+pub fill_contents_spec : {M : Type 1} → statement M
+fill_contents_spec =
     tie.close
     (tie.spec
     invariant-loop

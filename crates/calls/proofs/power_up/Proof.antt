@@ -1,12 +1,12 @@
 -- `calls::power_up` meets its contract: the judge's refusal is handed on. Assumes nothing.
 use mathlib.Core.Path.{refl}
 use borrow.Author.Rules.{rules}
-use Rattle.calls.proofs.Calls.{handed-on}
+use Rattle.calls.proofs.Calls.{handed_on}
 use Rattle.calls.proofs.power_up.Statement.{statement}
 use Rattle.calls.proofs.power_up.Tie as tie
 
-judge-requires : tie.Need-judge-requires
-judge-requires c κs = search rules
+judge_requires : tie.Need-judge-requires
+judge_requires c κs = search rules
 
 enum-known-v : tie.Need-enum-known-v
 enum-known-v c = search rules
@@ -18,7 +18,7 @@ refusal-requires : tie.Need-refusal-requires
 refusal-requires c κs = search rules
 
 returns : tie.Need-returns
-returns c = handed-on _ _ c.before.enum_told.given.1 c.before.before.before.judge.ensures c.refusal.ensures refl
+returns c = handed_on _ _ c.before.enum_told.given.1 c.before.before.before.judge.ensures c.refusal.ensures refl
 
 power-up-accepted-requires : tie.Need-power-up-accepted-requires
 power-up-accepted-requires c κs = rw c.before.before.before.v.given.1 at c.before.before.before.before.before.judge.ensures
@@ -26,22 +26,22 @@ power-up-accepted-requires c κs = rw c.before.before.before.v.given.1 at c.befo
 same_length : tie.Need-same-length
 same_length c = search rules
 
-same-length-2 : tie.Need-same-length-2
-same-length-2 c = search rules
+same_length_2 : tie.Need-same-length-2
+same_length_2 c = search rules
 
-returns-2 : tie.Need-returns-2
-returns-2 c = search rules
+returns_2 : tie.Need-returns-2
+returns_2 c = search rules
 
-pub power-up-spec : {M : Type 1} → statement M
-power-up-spec =
+pub power_up_spec : {M : Type 1} → statement M
+power_up_spec =
     tie.close
     (tie.spec
-    judge-requires
+    judge_requires
     enum-known-v
     enum_told
     refusal-requires
     returns
     power-up-accepted-requires
     same_length
-    same-length-2
-    returns-2)
+    same_length_2
+    returns_2)

@@ -2,24 +2,24 @@
 use mathlib.Core.Path.{◌∙◌, refl, sym, ap, ap₂}
 use borrow.Author.Rules.{rules}
 use Rattle.rules.specs.Rules.{given}
-use Rattle.column.proofs.Verdicts.{accepted-sound}
-use Rattle.column.proofs.SoundLaws.{sound-file}
+use Rattle.column.proofs.Verdicts.{accepted_sound}
+use Rattle.column.proofs.SoundLaws.{sound_file}
 use Rattle.column.specs.Clock.{state_of}
 use Rattle.calls.specs.Calls.{refused, done}
-use Rattle.buffers.proofs.Lengths.{state-lengths}
+use Rattle.buffers.proofs.Lengths.{state_lengths}
 use Rattle.calls.proofs.power_up_accepted.Statement.{statement}
 use Rattle.calls.proofs.power_up_accepted.Tie as tie
 
 bad-state-requires : tie.Need-bad-state-requires
 bad-state-requires c κs =
     let b = c.before.before.before.before.before in
-    (sound-file b.args.file.now (accepted-sound b.args.file.now b.requires)).slices-fit
+    (sound_file b.args.file.now (accepted_sound b.args.file.now b.requires)).slices_fit
 
 same_length : tie.Need-same-length
 same_length c = search rules
 
-same-length-2 : tie.Need-same-length-2
-same-length-2 c = search rules
+same_length_2 : tie.Need-same-length-2
+same_length_2 c = search rules
 
 returns : tie.Need-returns
 returns c =
@@ -30,38 +30,38 @@ fill-contents-requires : tie.Need-fill-contents-requires
 fill-contents-requires c κs =
     let e = c.before in
     let b = e.before.before.before.before.before.before.before in
-    (accepted-sound b.args.file.now b.requires, (state-lengths _ _ (sym e.before.bad-state.ensures ∙ e.if1.false)).0)
+    (accepted_sound b.args.file.now b.requires, (state_lengths _ _ (sym e.before.bad-state.ensures ∙ e.if1.false)).0)
 
 fill-flops-requires : tie.Need-fill-flops-requires
 fill-flops-requires c κs =
     let e = c.before.before.before.before.before in
     let b = e.before.before.before.before.before.before.before in
-    (accepted-sound b.args.file.now b.requires, (state-lengths _ _ (sym e.before.bad-state.ensures ∙ e.if1.false)).1)
+    (accepted_sound b.args.file.now b.requires, (state_lengths _ _ (sym e.before.bad-state.ensures ∙ e.if1.false)).1)
 
-same-length-3 : tie.Need-same-length-3
-same-length-3 c = search rules
+same_length_3 : tie.Need-same-length-3
+same_length_3 c = search rules
 
 same-length-4 : tie.Need-same-length-4
 same-length-4 c = search rules
 
-returns-2 : tie.Need-returns-2
-returns-2 c =
+returns_2 : tie.Need-returns-2
+returns_2 c =
     let k = c.before.before in
     let e = k.before.before.before.before.before.before in
     let b = e.before.before.before.before.before.before.before in
     done b.requires (ap (given 10) (sym e.before.bad-state.ensures ∙ e.if1.false))
     (ap₂ state_of k.before.before.before.before.fill-contents.ensures k.fill-flops.ensures)
 
-pub power-up-accepted-spec : {M : Type 1} → statement M
-power-up-accepted-spec =
+pub power_up_accepted_spec : {M : Type 1} → statement M
+power_up_accepted_spec =
     tie.close
     (tie.spec
     bad-state-requires
     same_length
-    same-length-2
+    same_length_2
     returns
     fill-contents-requires
     fill-flops-requires
-    same-length-3
+    same_length_3
     same-length-4
-    returns-2)
+    returns_2)

@@ -1,7 +1,7 @@
 -- `calls::refusal` meets its contract. Assumes nothing.
 use mathlib.Core.Path.{sym, ap}
 use borrow.Author.Rules.{rules}
-use Rattle.calls.specs.Calls.{refusalOf}
+use Rattle.calls.specs.Calls.{refusal_of}
 use Rattle.calls.proofs.refusal.Statement.{statement}
 use Rattle.calls.proofs.refusal.Tie as tie
 
@@ -12,10 +12,10 @@ enum_told : tie.Need-enum-told
 enum_told c = search rules
 
 returns : tie.Need-returns
-returns c = sym (ap refusalOf c.before.v.given.1)
+returns c = sym (ap refusal_of c.before.v.given.1)
 
-returns-2 : tie.Need-returns-2
-returns-2 c = sym (ap refusalOf c.enum_told.given.1)
+returns_2 : tie.Need-returns-2
+returns_2 c = sym (ap refusal_of c.enum_told.given.1)
 
-pub refusal-spec : {M : Type 1} → statement M
-refusal-spec = tie.close (tie.spec enum-known-v enum_told returns returns-2)
+pub refusal_spec : {M : Type 1} → statement M
+refusal_spec = tie.close (tie.spec enum-known-v enum_told returns returns_2)

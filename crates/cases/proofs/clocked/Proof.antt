@@ -63,8 +63,8 @@ array-read-t33 c = search rules
 returns : tie.Need-returns invariant-loop decreases-loop
 returns c = search rules
 
-pub clocked-spec : {M : Type 1} → statement M
-clocked-spec =
+pub clocked_spec : {M : Type 1} → statement M
+clocked_spec =
     tie.close
     (tie.spec
     invariant-loop

@@ -32,8 +32,8 @@ loop-again c = search rules
 returns : tie.Need-returns invariant-loop decreases-loop
 returns c = search rules
 
-pub print-ones-spec : {M : Type 1} → statement M
-print-ones-spec =
+pub print_ones_spec : {M : Type 1} → statement M
+print_ones_spec =
     tie.close
     (tie.spec
     invariant-loop

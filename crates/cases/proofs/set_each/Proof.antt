@@ -33,8 +33,8 @@ loop-again c = search rules
 returns : tie.Need-returns invariant-loop decreases-loop
 returns c = search rules
 
-pub set-each-spec : {M : Type 1} → statement M
-set-each-spec =
+pub set_each_spec : {M : Type 1} → statement M
+set_each_spec =
     tie.close
     (tie.spec
     invariant-loop

@@ -18,14 +18,14 @@ slice-write-flops c = search rules
 same_length : tie.Need-same-length
 same_length c = search rules
 
-same-length-2 : tie.Need-same-length-2
-same-length-2 c = search rules
+same_length_2 : tie.Need-same-length-2
+same_length_2 c = search rules
 
 returns : tie.Need-returns
 returns c = (c.before.before.before.before.move-words.ensures, rw c.next-flops.ensures)
 
-pub move-slice-spec : {M : Type 1} → statement M
-move-slice-spec =
+pub move_slice_spec : {M : Type 1} → statement M
+move_slice_spec =
     tie.close
     (tie.spec
     move-words-requires
@@ -33,5 +33,5 @@ move-slice-spec =
     next-flops-requires
     slice-write-flops
     same_length
-    same-length-2
+    same_length_2
     returns)

@@ -4,7 +4,7 @@ use Prim.Native.Nat.{ℕ, ◌-◌, ◌≤◌}
 use native.Mathlib.Omega.{arith}
 use borrow.Author.Rules.{rules}
 use lib.Dec.{lit≤}
-use Rattle.clockedge.specs.Moves.{wordBy}
+use Rattle.clockedge.specs.Moves.{word_by}
 use Rattle.clockedge.specs.Moved.{Moved}
 use Rattle.clockedge.proofs.Moving.{moved_none, moved_more}
 use Rattle.clockedge.proofs.move_words.Statement.{statement}
@@ -59,7 +59,7 @@ loop-again c =
     let v = a.wires.now in (
       omega arith,
       moved_more v a.edge.now a.s l.l a.contents.now l.contents c.next_word.result l.invariant.1 (omega arith)
-          (c.next_word.ensures ∙ ap (wordBy v a.edge.now l.l _) c.before.before.word_at.ensures),
+          (c.next_word.ensures ∙ ap (word_by v a.edge.now l.l _) c.before.before.word_at.ensures),
     )
 
 same_length : tie.Need-same-length invariant-loop decreases-loop
@@ -72,8 +72,8 @@ returns c =
     let all : l.l ≡ 4 = omega arith in
     subst (λ (k : ℕ). Moved a.wires.now a.edge.now a.s k a.contents.now l.contents) all l.invariant.1
 
-pub move-words-spec : {M : Type 1} → statement M
-move-words-spec =
+pub move_words_spec : {M : Type 1} → statement M
+move_words_spec =
     tie.close
     (tie.spec
     invariant-loop

@@ -4,8 +4,8 @@ use Prim.Native.Nat.{◌+◌, ◌%◌}
 use native.Mathlib.Omega.{arith}
 use borrow.Author.Rules.{rules}
 use lib.Dec.{lit<, lit≤}
-use Rattle.clocknumbers.specs.Numbers.{enablePlace, resetPlace, flopPlace}
-use Rattle.clockedge.proofs.Byte.{byte-reset, byte-taken, byte-kept}
+use Rattle.clocknumbers.specs.Numbers.{enable_place, reset_place, flop_place}
+use Rattle.clockedge.proofs.Byte.{byte_reset, byte_taken, byte_kept}
 use Rattle.clockedge.proofs.next_flops.Statement.{statement}
 use Rattle.clockedge.proofs.next_flops.Tie as tie
 
@@ -13,7 +13,7 @@ shared-slice-read-wire : tie.Need-shared-slice-read-wire
 shared-slice-read-wire c = search rules
 
 wire-requires : tie.Need-wire-requires
-wire-requires c κs = let b = c.before.before.before in (b.requires.pins resetPlace (lit< tt), b.requires.bits)
+wire-requires c κs = let b = c.before.before.before in (b.requires.pins reset_place (lit< tt), b.requires.bits)
 
 shared-slice-read-result : tie.Need-shared-slice-read-result
 shared-slice-read-result c = search rules
@@ -25,35 +25,35 @@ returns : tie.Need-returns
 returns c =
     let a = c.before.before.before.before.before.before.args in
     let v = a.wires.now in
-    sym (byte-reset v a.edge.now a.old (sym c.before.before.wire.ensures.0 ∙ c.before.if1.true))
+    sym (byte_reset v a.edge.now a.old (sym c.before.before.wire.ensures.0 ∙ c.before.if1.true))
 
 shared-slice-read-wire-2 : tie.Need-shared-slice-read-wire-2
 shared-slice-read-wire-2 c = search rules
 
 wire-requires-2 : tie.Need-wire-requires-2
-wire-requires-2 c κs = let b = c.before.before.before.before.before.before in (b.requires.pins enablePlace (lit< tt), b.requires.bits)
+wire-requires-2 c κs = let b = c.before.before.before.before.before.before in (b.requires.pins enable_place (lit< tt), b.requires.bits)
 
 number-on-requires : tie.Need-number-on-requires
 number-on-requires c κs =
     let b = c.before.before.before.before.before.before.before.before in
-    (omega (arith, b.requires.size), lit≤ tt, λ j h. b.requires.pins (flopPlace + j) (omega arith), b.requires.bits)
+    (omega (arith, b.requires.size), lit≤ tt, λ j h. b.requires.pins (flop_place + j) (omega arith), b.requires.bits)
 
-returns-2 : tie.Need-returns-2
-returns-2 c =
+returns_2 : tie.Need-returns-2
+returns_2 c =
     let a = c.before.before.before.before.before.before.before.before.before.args in
     let v = a.wires.now in
-    c.number-on.ensures.0
-    ∙ sym (byte-taken v a.edge.now a.old (λ h. c.before.before.before.before.if1.false (c.before.before.before.before.before.wire.ensures.0 ∙ h)) (sym c.before.before.wire2.ensures.0 ∙ c.before.if2.true))
+    c.number_on_lem.ensures.0
+    ∙ sym (byte_taken v a.edge.now a.old (λ h. c.before.before.before.before.if1.false (c.before.before.before.before.before.wire.ensures.0 ∙ h)) (sym c.before.before.wire2.ensures.0 ∙ c.before.if2.true))
 
-returns-3 : tie.Need-returns-3
-returns-3 c =
+returns_3 : tie.Need-returns-3
+returns_3 c =
     let a = c.before.before.before.before.before.before.before.before.args in
     let v = a.wires.now in
     let small : a.old % 256 ≡ a.old = omega arith in
-    sym (byte-kept v a.edge.now a.old (λ h. c.before.before.before.if1.false (c.before.before.before.before.wire.ensures.0 ∙ h)) (λ h. c.if2.false (c.before.wire2.ensures.0 ∙ h)) ∙ small)
+    sym (byte_kept v a.edge.now a.old (λ h. c.before.before.before.if1.false (c.before.before.before.before.wire.ensures.0 ∙ h)) (λ h. c.if2.false (c.before.wire2.ensures.0 ∙ h)) ∙ small)
 
-pub next-flops-spec : {M : Type 1} → statement M
-next-flops-spec =
+pub next_flops_spec : {M : Type 1} → statement M
+next_flops_spec =
     tie.close
     (tie.spec
     shared-slice-read-wire
@@ -64,5 +64,5 @@ next-flops-spec =
     shared-slice-read-wire-2
     wire-requires-2
     number-on-requires
-    returns-2
-    returns-3)
+    returns_2
+    returns_3)

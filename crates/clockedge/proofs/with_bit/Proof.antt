@@ -5,7 +5,7 @@ use native.Mathlib.Omega.{arith}
 use borrow.Author.Rules.{rules}
 use lib.Pow.{pow-lt}
 use Rattle.netlist.proofs.Bits.{power}
-use Rattle.clockedge.proofs.Bits.{bit_below, with-bit-fits}
+use Rattle.clockedge.proofs.Bits.{bit_below, with_bit_fits}
 use Rattle.clockedge.proofs.with_bit.Statement.{statement}
 use Rattle.clockedge.proofs.with_bit.Tie as tie
 
@@ -25,11 +25,11 @@ mul-result-2 : tie.Need-overflow-mul-result-2
 mul-result-2 c = rw (power c.args.i c.requires.0) (omega (arith, mul-le-mul_right {m = c.args.b} {n = 1} (2 ^ c.args.i) (search rules), one-mul (2 ^ c.args.i), pow-lt c.requires.0))
 
 add-result : tie.Need-overflow-add-result
-add-result c = rw (power c.args.i c.requires.0) (record { fits = with-bit-fits c.args.word c.args.i c.args.b c.requires.0 c.ranges.word.fits c.requires.1 })
+add-result c = rw (power c.args.i c.requires.0) (record { fits = with_bit_fits c.args.word c.args.i c.args.b c.requires.0 c.ranges.word.fits c.requires.1 })
 
 returns : tie.Need-returns
 returns c = rw (power c.args.i c.requires.0)
 
-pub with-bit-spec : {M : Type 1} → statement M
-with-bit-spec =
+pub with_bit_spec : {M : Type 1} → statement M
+with_bit_spec =
     tie.close (tie.spec shl-power shr-was mul-result sub-result mul-result-2 add-result returns)

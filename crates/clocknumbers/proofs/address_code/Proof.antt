@@ -1,7 +1,7 @@
 -- `clocknumbers::address_code` meets its contract. Assumes nothing.
 use borrow.Author.Tests.{eq-eqb, ne_eqb}
 use borrow.Author.Rules.{rules}
-use Rattle.clocknumbers.specs.Numbers.{addressCode}
+use Rattle.clocknumbers.specs.Numbers.{address_code}
 use Rattle.clocknumbers.proofs.address_code.Statement.{statement}
 use Rattle.clocknumbers.proofs.address_code.Tie as tie
 
@@ -15,13 +15,13 @@ pin-number-requires : tie.Need-pin-number-requires
 pin-number-requires c κs = search rules
 
 returns : tie.Need-returns
-unfolding addressCode
+unfolding address_code
 returns c = search (rules, eq-eqb, c.pin-number.ensures)
 
-returns-2 : tie.Need-returns-2
-unfolding addressCode
-returns-2 c = search (rules, ne_eqb)
+returns_2 : tie.Need-returns-2
+unfolding address_code
+returns_2 c = search (rules, ne_eqb)
 
-pub address-code-spec : {M : Type 1} → statement M
-address-code-spec =
-    tie.close (tie.spec shared-slice-read-if1 add-pin-number pin-number-requires returns returns-2)
+pub address_code_spec : {M : Type 1} → statement M
+address_code_spec =
+    tie.close (tie.spec shared-slice-read-if1 add-pin-number pin-number-requires returns returns_2)

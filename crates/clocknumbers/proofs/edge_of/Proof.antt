@@ -9,16 +9,16 @@ use lib.Dec.{lit≤}
 use lib.ListN.{length, get_or, length-set}
 use lib.Seq.{get_or-set_same, get_or-set_other}
 use Rattle.slicefile.proofs.Tabulate.{tabulated}
-use Rattle.clocknumbers.specs.Numbers.{edgeLength, edgeNumber, edgeNumbers}
+use Rattle.clocknumbers.specs.Numbers.{edge_length, edge_number, edge_numbers}
 use Rattle.clocknumbers.proofs.edge_of.Statement.{statement}
 use Rattle.clocknumbers.proofs.edge_of.Tie as tie
 
 abbrev invariant-loop : tie.invariant-loop
 invariant-loop n m s body edge₀ k₀ edge k =
-    (k ≤ edgeLength) × (length edge ≡ edgeLength) × ((j : ℕ) → j < k → get_or edge j 0 ≡ edgeNumber n m s body j)
+    (k ≤ edge_length) × (length edge ≡ edge_length) × ((j : ℕ) → j < k → get_or edge j 0 ≡ edge_number n m s body j)
 
 abbrev decreases-loop : tie.decreases-loop
-decreases-loop n m s body edge₀ k₀ edge k = edgeLength - k
+decreases-loop n m s body edge₀ k₀ edge k = edge_length - k
 
 loop-holds : tie.Need-loop-init invariant-loop decreases-loop
 loop-holds c = (lit≤ tt, refl, λ j h. absurd (not-suc-le-zero h))
@@ -49,13 +49,13 @@ loop-again c =
     )
 
 returns : tie.Need-returns invariant-loop decreases-loop
-unfolding edgeNumbers
+unfolding edge_numbers
 returns c =
     let l = c.before.loop in
-    tabulated _ edgeLength l.edge l.invariant.1 (λ k h. l.invariant.2 k (omega arith))
+    tabulated _ edge_length l.edge l.invariant.1 (λ k h. l.invariant.2 k (omega arith))
 
-pub edge-of-spec : {M : Type 1} → statement M
-edge-of-spec =
+pub edge_of_spec : {M : Type 1} → statement M
+edge_of_spec =
     tie.close
     (tie.spec
     invariant-loop

@@ -13,8 +13,8 @@ returns c = search (rules, lt-ltb, c.main_code.ensures)
 second-code-requires : tie.Need-second-code-requires
 second-code-requires c κs = search rules
 
-returns-2 : tie.Need-returns-2
-returns-2 c = search (rules, le-ltb, c.second-code.ensures)
+returns_2 : tie.Need-returns-2
+returns_2 c = search (rules, le-ltb, c.second-code.ensures)
 
-pub flop-code-spec : {M : Type 1} → statement M
-flop-code-spec = tie.close (tie.spec main-code-requires returns second-code-requires returns-2)
+pub flop_code_spec : {M : Type 1} → statement M
+flop_code_spec = tie.close (tie.spec main-code-requires returns second-code-requires returns_2)

@@ -2,7 +2,7 @@
 use borrow.Author.Tests.{eq-eqb, ne_eqb}
 use borrow.Author.Rules.{rules}
 use Rattle.netlist.specs.Table.{code_of}
-use Rattle.series7.specs.Edge.{secondSource}
+use Rattle.series7.specs.Edge.{second_source}
 use Rattle.clocknumbers.proofs.second_code.Statement.{statement}
 use Rattle.clocknumbers.proofs.second_code.Tie as tie
 
@@ -19,7 +19,7 @@ own-number-requires : tie.Need-own-number-requires
 own-number-requires c κs = search rules
 
 returns : tie.Need-returns
-unfolding code_of secondSource
+unfolding code_of second_source
 returns c = search (rules, eq-eqb, c.own-number.ensures)
 
 add-pin-number : tie.Need-overflow-add-pin-number
@@ -28,12 +28,12 @@ add-pin-number c = search rules
 pin-number-requires : tie.Need-pin-number-requires
 pin-number-requires c κs = search rules
 
-returns-2 : tie.Need-returns-2
-unfolding secondSource
-returns-2 c = search (rules, ne_eqb, c.pin-number.ensures)
+returns_2 : tie.Need-returns-2
+unfolding second_source
+returns_2 c = search (rules, ne_eqb, c.pin-number.ensures)
 
-pub second-code-spec : {M : Type 1} → statement M
-second-code-spec =
+pub second_code_spec : {M : Type 1} → statement M
+second_code_spec =
     tie.close
     (tie.spec
     add-if1
@@ -43,4 +43,4 @@ second-code-spec =
     returns
     add-pin-number
     pin-number-requires
-    returns-2)
+    returns_2)

@@ -15,9 +15,9 @@ returns : tie.Need-returns
 unfolding kind_of
 returns c = search (rules, eq-eqb)
 
-returns-2 : tie.Need-returns-2
+returns_2 : tie.Need-returns-2
 unfolding kind_of
-returns-2 c = search (rules, eq-eqb, ne_eqb)
+returns_2 c = search (rules, eq-eqb, ne_eqb)
 
 add-if3 : tie.Need-overflow-add-if3
 add-if3 c = search rules
@@ -25,23 +25,23 @@ add-if3 c = search rules
 shared-slice-read-if3 : tie.Need-shared-slice-read-if3
 shared-slice-read-if3 c = search rules
 
-returns-3 : tie.Need-returns-3
+returns_3 : tie.Need-returns-3
 unfolding kind_of
-returns-3 c = search (rules, eq-eqb, ne_eqb)
+returns_3 c = search (rules, eq-eqb, ne_eqb)
 
 returns-4 : tie.Need-returns-4
 unfolding kind_of
 returns-4 c = search (rules, eq-eqb, ne_eqb)
 
-pub table-kind-spec : {M : Type 1} → statement M
-table-kind-spec =
+pub table_kind_spec : {M : Type 1} → statement M
+table_kind_spec =
     tie.close
     (tie.spec
     add-mode
     shared-slice-read-mode
     returns
-    returns-2
+    returns_2
     add-if3
     shared-slice-read-if3
-    returns-3
+    returns_3
     returns-4)

@@ -11,8 +11,8 @@ returns c = rw c.if1.true (sym (div-zero _))
 div-result : tie.Need-nonzero-div-result
 div-result c = search rules
 
-returns-2 : tie.Need-returns-2
-returns-2 c = search rules
+returns_2 : tie.Need-returns-2
+returns_2 c = search rules
 
-pub clock-count-spec : {M : Type 1} → statement M
-clock-count-spec = tie.close (tie.spec returns div-result returns-2)
+pub clock_count_spec : {M : Type 1} → statement M
+clock_count_spec = tie.close (tie.spec returns div-result returns_2)

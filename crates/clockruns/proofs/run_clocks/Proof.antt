@@ -4,7 +4,7 @@ use Prim.Native.Nat.{◌+◌, ◌*◌, ◌-◌, ◌≤◌, ◌<◌}
 use native.Mathlib.Omega.{arith}
 use borrow.Author.Rules.{rules}
 use lib.ListN.{length}
-use Rattle.clockruns.proofs.Extending.{RunTo, run-start, part-fits, part-is, part-long, part-bits, plan-next}
+use Rattle.clockruns.proofs.Extending.{RunTo, run_start, part_fits, part_is, part_long, part_bits, plan_next}
 use Rattle.clockruns.proofs.run_clocks.Statement.{statement}
 use Rattle.clockruns.proofs.run_clocks.Tie as tie
 
@@ -22,10 +22,10 @@ start l = l.before.before.before.before.before.before.before
 fits : (c : tie.In-loop invariant-loop decreases-loop) → let a = (start c.before).args in a.m * c.before.loop.i + a.m ≤ length a.inputs.now
 fits c =
     let b = start c.before in
-    part-fits b.args.inputs.now b.args.m b.args.k c.before.loop.i b.pre.1.1.0 (omega arith)
+    part_fits b.args.inputs.now b.args.m b.args.k c.before.loop.i b.pre.1.1.0 (omega arith)
 
 loop-holds : tie.Need-loop-init invariant-loop decreases-loop
-loop-holds c = (search rules, run-start c.before.before.before.before.before.before.requires.0.2)
+loop-holds c = (search rules, run_start c.before.before.before.before.before.before.requires.0.2)
 
 mul_at : tie.Need-overflow-mul-at invariant-loop decreases-loop
 mul_at c = omega (arith, fits c)
@@ -50,11 +50,11 @@ clock-by-requires c κs =
     let a = b.args in
     let all = b.pre.1.1.0 in
     let inside : l.loop.i < a.k = omega arith in
-    rw (part-is a.inputs.now a.m a.k l.loop.i all inside, part-long a.inputs.now a.m a.k l.loop.i all inside) (
-      (b.pre.0.0, w.wires-size ∙ b.pre.0.1),
+    rw (part_is a.inputs.now a.m a.k l.loop.i all inside, part_long a.inputs.now a.m a.k l.loop.i all inside) (
+      (b.pre.0.0, w.wires_size ∙ b.pre.0.1),
       (
-        (w.contents-size ∙ b.pre.1.0.0, w.flops-size ∙ b.pre.1.0.1, w.values-size ∙ b.pre.1.0.2),
-        (part-bits a.inputs.now a.m a.k l.loop.i all inside b.pre.1.1.1, w.bits),
+        (w.contents_size ∙ b.pre.1.0.0, w.flops_size ∙ b.pre.1.0.1, w.values_size ∙ b.pre.1.0.2),
+        (part_bits a.inputs.now a.m a.k l.loop.i all inside b.pre.1.1.1, w.bits),
       ),
     )
 
@@ -70,13 +70,13 @@ loop-again c =
     let l = k.before.before.before.before.before.before.before in
     let b = start l in
     let a = b.args in
-    let ran = plan-next a.inputs.now a.m a.k l.loop.i b.pre.1.1.0 (omega arith) b.pre.1.1.1 l.loop.invariant.1.ran k.clock-by.ensures in (
+    let ran = plan_next a.inputs.now a.m a.k l.loop.i b.pre.1.1.0 (omega arith) b.pre.1.1.1 l.loop.invariant.1.ran k.clock-by.ensures in (
       search rules,
       record {
-        contents-size = search rules;
-        flops-size = search rules;
-        values-size = search rules;
-        wires-size = search rules;
+        contents_size = search rules;
+        flops_size = search rules;
+        values_size = search rules;
+        wires_size = search rules;
         bits = k.clock-by.ensures.bits;
         ran = ran;
       },
@@ -85,11 +85,11 @@ loop-again c =
 same_length : tie.Need-same-length invariant-loop decreases-loop
 same_length c = search rules
 
-same-length-2 : tie.Need-same-length-2 invariant-loop decreases-loop
-same-length-2 c = search rules
+same_length_2 : tie.Need-same-length-2 invariant-loop decreases-loop
+same_length_2 c = search rules
 
-same-length-3 : tie.Need-same-length-3 invariant-loop decreases-loop
-same-length-3 c = search rules
+same_length_3 : tie.Need-same-length-3 invariant-loop decreases-loop
+same_length_3 c = search rules
 
 same-length-4 : tie.Need-same-length-4 invariant-loop decreases-loop
 same-length-4 c = search rules
@@ -101,8 +101,8 @@ returns c =
     let e : l.loop.i ≡ b.args.k = omega arith in
     rw e at l.loop.invariant.1.ran
 
-pub run-clocks-spec : {M : Type 1} → statement M
-run-clocks-spec =
+pub run_clocks_spec : {M : Type 1} → statement M
+run_clocks_spec =
     tie.close
     (tie.spec
     invariant-loop
@@ -118,7 +118,7 @@ run-clocks-spec =
     loop-less
     loop-again
     same_length
-    same-length-2
-    same-length-3
+    same_length_2
+    same_length_3
     same-length-4
     returns)

@@ -11,5 +11,5 @@ check-from-requires c κs = search rules
 returns : tie.Need-returns
 returns c = c.check-from.ensures.0 ∙ from_start _
 
-pub check-file-spec : {M : Type 1} → statement M
-check-file-spec = tie.close (tie.spec check-from-requires returns)
+pub check_file_spec : {M : Type 1} → statement M
+check_file_spec = tie.close (tie.spec check-from-requires returns)

@@ -25,11 +25,11 @@ returns c = bad (sym c.before.before.before.check-file.ensures ∙ c.before.numb
 same_length : tie.Need-same-length
 same_length c = search rules
 
-same-length-2 : tie.Need-same-length-2
-same-length-2 c = search rules
+same_length_2 : tie.Need-same-length-2
+same_length_2 c = search rules
 
-returns-2 : tie.Need-returns-2
-returns-2 c = search rules
+returns_2 : tie.Need-returns-2
+returns_2 c = search rules
 
 pub load_spec : {M : Type 1} → statement M
 load_spec =
@@ -41,5 +41,5 @@ load_spec =
     load-sound-requires
     returns
     same_length
-    same-length-2
-    returns-2)
+    same_length_2
+    returns_2)

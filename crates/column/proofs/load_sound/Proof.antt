@@ -5,20 +5,20 @@ use native.Mathlib.Omega.{arith}
 use borrow.Author.Rules.{rules}
 use lib.ListN.{length, take}
 use lib.Seq.{take_at, length-take-le}
-use Rattle.netlist.proofs.Order.{loop-free}
-use Rattle.netlist.specs.Table.{signalCount, tableLength}
+use Rattle.netlist.proofs.Order.{loop_free}
+use Rattle.netlist.specs.Table.{signal_count, table_length}
 use Rattle.toposort.specs.Answer.{OrderOrLoop}
 use Rattle.toposort.specs.declared.Sorted.{Sorted}
-use Rattle.slicefile.specs.Format.{sliceLimit}
-use Rattle.column.specs.File.{gateAt}
+use Rattle.slicefile.specs.Format.{slice_limit}
+use Rattle.column.specs.File.{gate_at}
 use Rattle.column.specs.Judge.{accepted, loop}
-use Rattle.column.proofs.Netlist.{lowered-agree, lowered-range}
-use Rattle.column.proofs.SoundLaws.{sound-file}
+use Rattle.column.proofs.Netlist.{lowered_agree, lowered_range}
+use Rattle.column.proofs.SoundLaws.{sound_file}
 use Rattle.column.proofs.load_sound.Statement.{statement}
 use Rattle.column.proofs.load_sound.Tie as tie
 
-few : (c : tie.After-slice-known2) → c.before.before.before.args.n ≤ sliceLimit
-few c = (sound-file c.before.before.before.args.file.now c.before.before.before.requires.0).slices-fit
+few : (c : tie.After-slice-known2) → c.before.before.before.args.n ≤ slice_limit
+few c = (sound_file c.before.before.before.args.file.now c.before.before.before.requires.0).slices_fit
 
 mul-numbers : tie.Need-overflow-mul-numbers
 mul-numbers c = omega (arith, few c)
@@ -30,10 +30,10 @@ slice-relend-prefix-compile : tie.Need-slice-relend-prefix-compile
 slice-relend-prefix-compile c = omega (arith, few c)
 
 -- the fronts of the two buffers
-numbers : (c : tie.After-slice-known2) → let b = c.before.before.before in length (take (tableLength b.args.n) b.args.table.now) ≡ tableLength b.args.n
+numbers : (c : tie.After-slice-known2) → let b = c.before.before.before in length (take (table_length b.args.n) b.args.table.now) ≡ table_length b.args.n
 numbers c = length-take-le _ _ (omega (arith, few c))
 
-signals : (c : tie.After-slice-known2) → let b = c.before.before.before in length (take (signalCount b.args.n) b.args.order.now) ≡ signalCount b.args.n
+signals : (c : tie.After-slice-known2) → let b = c.before.before.before in length (take (signal_count b.args.n) b.args.order.now) ≡ signal_count b.args.n
 signals c = length-take-le _ _ (omega (arith, few c))
 
 slice-aggregate-compile : tie.Need-slice-aggregate-compile
@@ -52,7 +52,7 @@ compile-requires c κs = (c.before.before.before.before.before.requires.0, (numb
 Says : (c : tie.After-compile) → Sorted → Type 0
 Says c r =
     let a = c.before.before.before.before.before.before.args in
-    OrderOrLoop (gateAt a.file.now) a.n c.compile.new.1.1.1.1.0 r
+    OrderOrLoop (gate_at a.file.now) a.n c.compile.new.1.1.1.1.0 r
 
 enum-known-place : tie.Need-enum-known-place
 enum-known-place c = search rules
@@ -63,8 +63,8 @@ enum_told c = search rules
 same_length : tie.Need-same-length
 same_length c = search rules
 
-same-length-2 : tie.Need-same-length-2
-same-length-2 c = search rules
+same_length_2 : tie.Need-same-length-2
+same_length_2 c = search rules
 
 returns : tie.Need-returns
 unfolding Says
@@ -73,15 +73,15 @@ returns c =
     let w = subst (Says k) c.before.place.given.1 k.compile.ensures.sorted in
     loop k.before.before.before.before.before.before.requires.0 w.0 w.1 w.2
 
-same-length-3 : tie.Need-same-length-3
-same-length-3 c = search rules
+same_length_3 : tie.Need-same-length-3
+same_length_3 c = search rules
 
 same-length-4 : tie.Need-same-length-4
 same-length-4 c = search rules
 
-returns-2 : tie.Need-returns-2
+returns_2 : tie.Need-returns-2
 unfolding Says
-returns-2 c =
+returns_2 c =
     let k = c.before.before.before.before.before.before in
     let s = k.before.before.before in
     let o = subst (Says k) c.enum_told.given.1 k.compile.ensures.sorted in
@@ -90,18 +90,18 @@ returns-2 c =
     let order = k.compile.new.1.1.1.1.0 in
     let sized = k.compile.auto.1.1.1.0 ∙ numbers s in
     let listed = k.compile.auto.1.1.1.1.0 ∙ signals s in
-    let f = sound-file file s.before.before.before.requires.0 in
+    let f = sound_file file s.before.before.before.requires.0 in
     record {
-      verdict = accepted s.before.before.before.requires.0 (loop-free o.0);
+      verdict = accepted s.before.before.before.requires.0 (loop_free o.0);
       table = rw (take_at table _ _ sized) (omega (arith, few s), sized);
-      lowered = rw (take_at table _ _ sized) (lowered-agree file f table k.compile.ensures.lowered);
-      ranges = rw (take_at table _ _ sized) (lowered-range file f table k.compile.ensures.lowered);
+      lowered = rw (take_at table _ _ sized) (lowered_agree file f table k.compile.ensures.lowered);
+      ranges = rw (take_at table _ _ sized) (lowered_range file f table k.compile.ensures.lowered);
       ordered = rw (take_at order _ _ listed) o.0;
       flops = rw (take_at order _ _ listed) o.1;
     }
 
-pub load-sound-spec : {M : Type 1} → statement M
-load-sound-spec =
+pub load_sound_spec : {M : Type 1} → statement M
+load_sound_spec =
     tie.close
     (tie.spec
     mul-numbers
@@ -114,8 +114,8 @@ load-sound-spec =
     enum-known-place
     enum_told
     same_length
-    same-length-2
+    same_length_2
     returns
-    same-length-3
+    same_length_3
     same-length-4
-    returns-2)
+    returns_2)

@@ -4,13 +4,13 @@ use Prim.Native.Nat.{◌*◌, ◌-◌, ◌≤◌}
 use native.Mathlib.Omega.{arith}
 use borrow.Author.Rules.{rules}
 use lib.ListN.{length}
-use Rattle.netlist.specs.Table.{sliceSignals, tableLength}
+use Rattle.netlist.specs.Table.{slice_signals, table_length}
 use Rattle.column.specs.Compile.{LoweredTo}
 use Rattle.column.proofs.lower.Statement.{statement}
 use Rattle.column.proofs.lower.Tie as tie
 
 abbrev invariant-loop : tie.invariant-loop
-invariant-loop file n m table₀ s₀ table s = (s ≤ n) × (length table ≡ tableLength n) × LoweredTo file n table (sliceSignals * s)
+invariant-loop file n m table₀ s₀ table s = (s ≤ n) × (length table ≡ table_length n) × LoweredTo file n table (slice_signals * s)
 
 abbrev decreases-loop : tie.decreases-loop
 decreases-loop file n m table₀ s₀ table s = n - s

@@ -51,9 +51,9 @@ use denote.Triple.Table.{entered, cited}
 use denote.Triple.Walked.{says, Stays, stay_none_slice, walk_of, Walks, ends_at, walked, Goes-none_slice, walk_Meets}
 use denote.Exit.{yes}
 use Rattle.editlist.specs.declared.Edit.{Edit}
-use Rattle.editlist.specs.Listed.{editLimit, listLength, none, withEdit, listedCount, Listed}
-use Rattle.editlist.proofs.Array.{words, words-apart, words-whole}
-use Rattle.editlist.proofs.Listing.{count-there, listed_next}
+use Rattle.editlist.specs.Listed.{edit_limit, list_length, none, with_edit, listed_count, Listed}
+use Rattle.editlist.proofs.Array.{words, words_apart, words_whole}
+use Rattle.editlist.proofs.Listing.{count_there, listed_next}
 use Rattle.editlist.specs.contracts.Edit as T
 use Rattle.editlist.proofs.Edit.TheLaws as T'
 use Rattle.editlist.specs.contracts.listed_count as count
@@ -80,7 +80,7 @@ stayed = (stay_none_slice (0 ∷ []) tt (plain (λ _. T.the_row)) yes, tt)
 -- what follows a turn's test, which the generated MIR has under no name
 abbrev more : Body
 more = seq (call #editlist·edit-at (copy (place 1 []) ∷ copy (place 4 []) ∷ []) (place 5 [])) (seq (assign (place 9 []) (addr_of (place 3 [])))
-    (seq (assign (place 10 []) (aggregate (copy (place 9 []) ∷ int w64 listLength ∷ []))) (seq (call #editlist·put-edit (copy (place 10 []) ∷ copy (place 4 []) ∷ copy (place 5 []) ∷ []) (place 8 []))
+    (seq (assign (place 10 []) (aggregate (copy (place 9 []) ∷ int w64 list_length ∷ []))) (seq (call #editlist·put-edit (copy (place 10 []) ∷ copy (place 4 []) ∷ copy (place 5 []) ∷ []) (place 8 []))
     (assign (place 4 []) (op2 (add unsigned) (copy (place 4 [])) (int w64 1))))))
 
 module _ {M : Type 1} {𝓤 : Ura M} (𝓛 : Logic 𝓤) (mem' : Memory → SProp 𝓤) (run : Routine → Fun 𝓤) where
@@ -95,8 +95,8 @@ module _ {M : Type 1} {𝓤 : Ura M} (𝓛 : Logic 𝓤) (mem' : Memory → SPro
   PutEdit = triple_of 𝓛 put-edit.signature (put-edit.spec 𝓛 mem' run)
 
   -- of a callee's `ensured`, the clause alone
-  said-count : (n c : ℕ) → ent 𝓤 (ensured 𝓛 count.ended (count.clauses 𝓛 mem' run) tt (n, tt) tt c) (fact 𝓤 (c ≡ listedCount n))
-  said-count n c = ex_e 𝓤 _ (λ ws. snd∗ 𝓤 (sem 𝓛 (lasts count.ended tt (n, tt) ws)) (fact 𝓤 (c ≡ listedCount n)))
+  said_count : (n c : ℕ) → ent 𝓤 (ensured 𝓛 count.ended (count.clauses 𝓛 mem' run) tt (n, tt) tt c) (fact 𝓤 (c ≡ listed_count n))
+  said_count n c = ex_e 𝓤 _ (λ ws. snd∗ 𝓤 (sem 𝓛 (lasts count.ended tt (n, tt) ws)) (fact 𝓤 (c ≡ listed_count n)))
 
 module _ {M : Type 1} {𝓤 : Ura M} (𝓛 : Logic 𝓤) (mem' : Memory → SProp 𝓤) (run : Routine → Fun 𝓤) (κ : Lft) (q : Share) (b o : ℕ) (γ : GName) (ys : List Edit) (gn : Room T.the_row (length ys)) where
   open 𝓛 use {H}
@@ -125,17 +125,17 @@ module _ {M : Type 1} {𝓤 : Ura M} (𝓛 : Logic 𝓤) (mem' : Memory → SPro
   said_at : (i : ℕ) (r : Edit) → ent 𝓤 (ensured 𝓛 edit-at.ended (edit-at.clauses 𝓛 mem' run) (κ, tt) (x, (i, tt)) tt r) (fact 𝓤 (r ≡ get_or ys i none))
   said_at i r = ex_e 𝓤 _ (λ ws. snd∗ 𝓤 (sem 𝓛 (lasts edit-at.ended (κ, tt) (x, (i, tt)) ws)) (fact 𝓤 (r ≡ get_or ys i none)))
 
-  exits : (zs : List ℕ) (v : Val) → Listed ys (listedCount n) zs → ent 𝓤 (⋆ 𝓛 (Token ∷ ‵ Own ∷ ‵ ((Array u64 listLength).own_val zs (v ∷ [])) ∷ [])) (Post v)
+  exits : (zs : List ℕ) (v : Val) → Listed ys (listed_count n) zs → ent 𝓤 (⋆ 𝓛 (Token ∷ ‵ Own ∷ ‵ ((Array u64 list_length).own_val zs (v ∷ [])) ∷ [])) (Post v)
   exits zs v e =
-      qed 𝓛 (Token ∷ ‵ Own ∷ ‵ ((Array u64 listLength).own_val zs (v ∷ [])) ∷ []) ∵
+      qed 𝓛 (Token ∷ ‵ Own ∷ ‵ ((Array u64 list_length).own_val zs (v ∷ [])) ∷ []) ∵
       suffices ! _ (ends_at 𝓛 f.ended stayed (f.clauses 𝓛 mem' run) (((κ, tt), (q, tt), tt, (x, tt), at), tt) v zs (tt, tt) (tt, tt)) $ says ! e $
       frame ! $ nothing ! $ move ! (1 ∷ 0 ∷ []) $ fjoin ! $ frame ! $ done !
 
-  abbrev to-count : (Count 𝓛 mem' run).Ghost
-  to-count = ((tt, tt, tt, (n, tt), (vint w64 n ∷ [], tt)), tt)
+  abbrev to_count : (Count 𝓛 mem' run).Ghost
+  to_count = ((tt, tt, tt, (n, tt), (vint w64 n ∷ [], tt)), tt)
 
-  goes-count : ent 𝓤 (sem 𝓛 ftrue) ((Count 𝓛 mem' run).pre to-count)
-  goes-count = qed 𝓛 (‵ ftrue ∷ []) ∵ owned ! usize (Is usize) (uint_Makes 𝓛 w64) n _ (refl, gn.0) $ fjoin ! $ nothing ! $ join ! $ frame ! $ done !
+  goes_count : ent 𝓤 (sem 𝓛 ftrue) ((Count 𝓛 mem' run).pre to_count)
+  goes_count = qed 𝓛 (‵ ftrue ∷ []) ∵ owned ! usize (Is usize) (uint_Makes 𝓛 w64) n _ (refl, gn.0) $ fjoin ! $ nothing ! $ join ! $ frame ! $ done !
 
   abbrev to_at : ℕ → (EditAt 𝓛 mem' run).Ghost
   to_at i = (((κ, tt), (q, tt), tt, (x, (i, tt)), (s ∷ [], (vint w64 i ∷ [], tt))), tt)
@@ -152,26 +152,26 @@ module _ {M : Type 1} {𝓤 : Ura M} (𝓛 : Logic 𝓤) (mem' : Memory → SPro
   abbrev Lent : ℕ → ℕ → GName → List ℕ → Fml
   Lent l ν δ zs = (MutSlice (named 0) (ν ∷ []) u64).own_val (y l δ zs) (slice_val (l, 0) (length zs) ∷ [])
 
-  abbrev to-put : ℕ → ℕ → GName → List ℕ → ℕ → Edit → Val → (PutEdit 𝓛 mem' run).Ghost
-  to-put l ν δ zs i e u = (((ν ∷ [], tt), (full_share, tt), tt, (y l δ zs, (i, (e, tt))), (slice_val (l, 0) (length zs) ∷ [], (vint w64 i ∷ [], (u ∷ [], tt)))), tt)
+  abbrev to_put : ℕ → ℕ → GName → List ℕ → ℕ → Edit → Val → (PutEdit 𝓛 mem' run).Ghost
+  to_put l ν δ zs i e u = (((ν ∷ [], tt), (full_share, tt), tt, (y l δ zs, (i, (e, tt))), (slice_val (l, 0) (length zs) ∷ [], (vint w64 i ∷ [], (u ∷ [], tt)))), tt)
 
-  goes-put : (l ν : ℕ) (δ : GName) (zs : List ℕ) (i : ℕ) (e : Edit) (u : Val) → i < editLimit → length zs ≡ listLength
-      → ent 𝓤 (⋆ 𝓛 (‵ (flft (ν ∷ []) full_share) ∷ ‵ (Lent l ν δ zs) ∷ ‵ ((T.the_row).own_val e (u ∷ [])) ∷ [])) ((PutEdit 𝓛 mem' run).pre (to-put l ν δ zs i e u))
-  goes-put l ν δ zs i e u few long =
+  goes_put : (l ν : ℕ) (δ : GName) (zs : List ℕ) (i : ℕ) (e : Edit) (u : Val) → i < edit_limit → length zs ≡ list_length
+      → ent 𝓤 (⋆ 𝓛 (‵ (flft (ν ∷ []) full_share) ∷ ‵ (Lent l ν δ zs) ∷ ‵ ((T.the_row).own_val e (u ∷ [])) ∷ [])) ((PutEdit 𝓛 mem' run).pre (to_put l ν δ zs i e u))
+  goes_put l ν δ zs i e u few long =
       qed 𝓛 (‵ (flft (ν ∷ []) full_share) ∷ ‵ (Lent l ν δ zs) ∷ ‵ ((T.the_row).own_val e (u ∷ [])) ∷ []) ∵ says ! (few, long) $ nothing ! $ move ! (1 ∷ 0 ∷ []) $ join ! $ frame ! $
-      nothing ! $ move ! (2 ∷ 0 ∷ []) $ fjoin ! $ owned ! usize (Is usize) (uint_Makes 𝓛 w64) i _ (refl, lt_of_le_of_lt (omega (arith, few)) (lit< {m = editLimit} {n = 2 ^ 64} tt)) $ fjoin ! $ move ! (1 ∷ 0 ∷ []) $ fjoin ! $ done !
+      nothing ! $ move ! (2 ∷ 0 ∷ []) $ fjoin ! $ owned ! usize (Is usize) (uint_Makes 𝓛 w64) i _ (refl, lt_of_le_of_lt (omega (arith, few)) (lit< {m = edit_limit} {n = 2 ^ 64} tt)) $ fjoin ! $ move ! (1 ∷ 0 ∷ []) $ fjoin ! $ done !
 
-  roomy : (zs : List ℕ) → length zs ≡ listLength → Room u64 (length zs)
+  roomy : (zs : List ℕ) → length zs ≡ list_length → Room u64 (length zs)
   roomy zs e = rw e (lit< tt, lit< tt)
 
   -- how many edits are put into words
-  module _ (c : ℕ) (ec : c ≡ listedCount n) where
+  module _ (c : ℕ) (ec : c ≡ listed_count n) where
     -- where the loop stands: the place, and the words so far
     record Place : Type 0 where
       i : ℕ
       le : i ≤ c
       zs : List ℕ
-      long : length zs ≡ listLength
+      long : length zs ≡ list_length
       holds : Listed ys i zs
 
     abbrev Nearer : Place → Place → Type 0
@@ -194,7 +194,7 @@ module _ {M : Type 1} {𝓤 : Ura M} (𝓛 : Logic 𝓤) (mem' : Memory → SPro
       word = ty_int w64
 
       abbrev arr : Ty
-      arr = words listLength
+      arr = words list_length
 
       abbrev slice : Ty
       slice = slice_ty (ty_ref (named 0) imm (pointee (T.the_row).written))
@@ -219,16 +219,16 @@ module _ {M : Type 1} {𝓤 : Ura M} (𝓛 : Logic 𝓤) (mem' : Memory → SPro
         Turned p = after_turn 𝓤 H (Below 𝓛 Nearer At p) (after_block 𝓤 H (after_seq 𝓤 H (Wp 𝓤 H C Λ En mir.t-6 (at_return 𝓤 H En Post)) (at_return 𝓤 H En Post)))
 
         -- the words are read whole and returned
-        ends : (p : Place) → Listed ys (listedCount n) p.zs → (t : Val) → Sq 𝓛 (‵ (froom part l₁₀ 0) ∷ ‵ (fdies part l₁₀) ∷ ‵ (froom ref l₉ 0) ∷ ‵ (fdies ref l₉) ∷ ‵ (froom ty_unit l₈ 0) ∷ ‵ (fdies ty_unit l₈) ∷ ‵ (fat full_share ty_bool l₇ 0 t) ∷ ‵ (fdies ty_bool l₇)
+        ends : (p : Place) → Listed ys (listed_count n) p.zs → (t : Val) → Sq 𝓛 (‵ (froom part l₁₀ 0) ∷ ‵ (fdies part l₁₀) ∷ ‵ (froom ref l₉ 0) ∷ ‵ (fdies ref l₉) ∷ ‵ (froom ty_unit l₈ 0) ∷ ‵ (fdies ty_unit l₈) ∷ ‵ (fat full_share ty_bool l₇ 0 t) ∷ ‵ (fdies ty_bool l₇)
             ∷ ‵ (froom word l₆ 0) ∷ ‵ (fdies word l₆) ∷ ‵ (froom T'.mir l₅ 0) ∷ ‵ (fdies T'.mir l₅) ∷ ‵ (fat full_share word l₄ 0 (vint w64 p.i)) ∷ ‵ (fdies word l₄)
             ∷ ‵ (cells (mem u64) p.zs l₃ 0) ∷ ‵ (fdies arr l₃) ∷ ‵ (fat full_share word l₂ 0 (vint w64 c)) ∷ ‵ (fdies word l₂)
             ∷ ‵ (fat full_share slice l₁ 0 s) ∷ ‵ (fdies slice l₁) ∷ ‵ (froom arr l₀ 0) ∷ ‵ (fdies arr l₀) ∷ Token ∷ ‵ Own ∷ []) (runs C Λ En mir.t-6 (at_ret En Post))
         ends p all t =
-            move ! (14 ∷ []) $ use1 𝓛 (some (λ (v : Val). ‵ (fat full_share arr l₃ 0 v) ⊛ ‵ ((Array u64 listLength).own_val p.zs (v ∷ [])))) (words-whole 𝓛 listLength l₃ p.zs p.long) $ pick ! (λ v. split ! $ move ! (1 ∷ []) $
-            peeks ! (Array u64 listLength) (Is (Array u64 listLength)) (shows 𝓛 (Array u64 listLength)) p.zs (v ∷ []) (λ is.
+            move ! (14 ∷ []) $ use1 𝓛 (some (λ (v : Val). ‵ (fat full_share arr l₃ 0 v) ⊛ ‵ ((Array u64 list_length).own_val p.zs (v ∷ [])))) (words_whole 𝓛 list_length l₃ p.zs p.long) $ pick ! (λ v. split ! $ move ! (1 ∷ []) $
+            peeks ! (Array u64 list_length) (Is (Array u64 list_length)) (shows 𝓛 (Array u64 list_length)) p.zs (v ∷ []) (λ is.
             keep ! (2 ∷ 3 ∷ 4 ∷ 5 ∷ 6 ∷ 7 ∷ 8 ∷ 9 ∷ 10 ∷ 11 ∷ 12 ∷ 13 ∷ 14 ∷ 15 ∷ 1 ∷ 16 ∷ 17 ∷ 18 ∷ 19 ∷ 20 ∷ 21 ∷ 22 ∷ 23 ∷ 24 ∷ 0 ∷ []) $
             -- [the locals, the last first; the token; what the slice owns; what the words own]
-            assigns ! (of_opd ! (load ! (from ! (stop !)) (look ! 14 refl))) (from ! (stop !)) (init ! 20 refl ((Array-Lawful 𝓛 u64 (uint_Lawful 𝓛 w64) listLength).typed p.zs _ is).0) $
+            assigns ! (of_opd ! (load ! (from ! (stop !)) (look ! 14 refl))) (from ! (stop !)) (init ! 20 refl ((Array-Lawful 𝓛 u64 (uint_Lawful 𝓛 w64) list_length).typed p.zs _ is).0) $
             returns ! (look ! 20 refl) $ forget ! 6 refl $ forget ! 12 refl $ forget ! 14 refl $ forget ! 16 refl $ forget ! 18 refl $ forget ! 20 refl $
             move ! (20 ∷ 21 ∷ []) $ free1 ! $ move ! (18 ∷ 19 ∷ []) $ free1 ! $ move ! (16 ∷ 17 ∷ []) $ free1 ! $ move ! (14 ∷ 15 ∷ []) $ free1 ! $ move ! (12 ∷ 13 ∷ []) $ free1 ! $ move ! (10 ∷ 11 ∷ []) $ free1 ! $
             move ! (8 ∷ 9 ∷ []) $ free1 ! $ move ! (6 ∷ 7 ∷ []) $ free1 ! $ move ! (4 ∷ 5 ∷ []) $ free1 ! $ move ! (2 ∷ 3 ∷ []) $ free1 ! $ free1 ! $ free0 ! $ by ! (exits p.zs v all)))
@@ -254,12 +254,12 @@ module _ {M : Type 1} {𝓤 : Ura M} (𝓛 : Logic 𝓤) (mem' : Memory → SPro
             lft_new ! tt (λ ν. move ! (18 ∷ []) $
             use1 𝓛 (later (some (λ (δ : GName). ‵ (Lent l₃ ν δ p.zs) ⊛ ‵ (flent (ν ∷ []) (Held u64 (length p.zs) l₃ 0 δ))))) (lends_slice 𝓛 u64 (named 0) (ν ∷ []) p.zs l₃ 0 (roomy p.zs p.long)) $ await ! tt $ pick ! (λ δ. split ! $
             -- [the slice; the lender's part; the token of ν; what the edit owns; the token; what the slice of structs owns; the locals]
-            move ! (2 ∷ 0 ∷ 3 ∷ []) $ use3 𝓛 (raw ((PutEdit 𝓛 mem' run).pre (to-put l₃ ν δ p.zs p.i r u))) (goes-put l₃ ν δ p.zs p.i r u (few less) p.long) $
-            calls_at ! fm (PutEdit 𝓛 mem' run) known-put (to-put l₃ ν δ p.zs p.i r u)
+            move ! (2 ∷ 0 ∷ 3 ∷ []) $ use3 𝓛 (raw ((PutEdit 𝓛 mem' run).pre (to_put l₃ ν δ p.zs p.i r u))) (goes_put l₃ ν δ p.zs p.i r u (few less) p.long) $
+            calls_at ! fm (PutEdit 𝓛 mem' run) known-put (to_put l₃ ν δ p.zs p.i r u)
             (and_then ! (load ! (from ! (stop !)) (look ! 4 refl)) (and_then ! (load ! (from ! (stop !)) (look ! 16 refl)) (and_then ! (load ! (from ! (stop !)) (look ! 14 refl)) (no_more !)))) (λ w.
             use1 𝓛 (later (some (λ (t : Unit {0}). ((‵ (flft (ν ∷ []) full_share) ⊛ ‵ ftrue) ⊛ ‵ (unit.own_val t (w ∷ []))) ⊛ raw (ensured 𝓛 put-edit.ended (put-edit.clauses 𝓛 mem' run) (ν ∷ [], tt) (y l₃ δ p.zs, (p.i, (r, tt))) tt t)))) (id⊢ 𝓤 _) $ await ! tt $ pick ! (λ t.
-            split ! $ move ! (1 ∷ []) $ use1 𝓛 (some (λ (ls : List ℕ × (Unit {0} × (Unit {0} × Unit {0}))). ‵ (lasts put-edit.ended (ν ∷ [], tt) (y l₃ δ p.zs, (p.i, (r, tt))) ls) ⊛ raw (fact 𝓤 (ls.0 ≡ withEdit p.zs p.i r)))) (id⊢ 𝓤 _) $ pick ! (λ ls.
-            split ! $ move ! (1 ∷ []) $ heard ! (ls.0 ≡ withEdit p.zs p.i r) (λ e₂. fsplit ! $ fsplit ! $ move ! (1 ∷ []) $ feq_l ! (λ long'.
+            split ! $ move ! (1 ∷ []) $ use1 𝓛 (some (λ (ls : List ℕ × (Unit {0} × (Unit {0} × Unit {0}))). ‵ (lasts put-edit.ended (ν ∷ [], tt) (y l₃ δ p.zs, (p.i, (r, tt))) ls) ⊛ raw (fact 𝓤 (ls.0 ≡ with_edit p.zs p.i r)))) (id⊢ 𝓤 _) $ pick ! (λ ls.
+            split ! $ move ! (1 ∷ []) $ heard ! (ls.0 ≡ with_edit p.zs p.i r) (λ e₂. fsplit ! $ fsplit ! $ move ! (1 ∷ []) $ feq_l ! (λ long'.
             -- [the last words; ..; the token of ν and the result; the lender's part; the token; what the slice of structs owns; the locals]
             move ! (2 ∷ []) $ split ! $ move ! (1 ∷ []) $ peeks ! unit (Is unit) (shows 𝓛 unit) t (w ∷ []) (λ is₂.
             land ! (from ! (stop !)) (init ! 11 refl ((Nothing-Lawful 𝓛).typed t _ is₂).0) $ dropped ! $
@@ -271,19 +271,19 @@ module _ {M : Type 1} {𝓤 : Ura M} (𝓛 : Logic 𝓤) (mem' : Memory → SPro
             keep ! (5 ∷ 6 ∷ 7 ∷ 8 ∷ 9 ∷ 10 ∷ 11 ∷ 12 ∷ 13 ∷ 14 ∷ 15 ∷ 16 ∷ 17 ∷ 18 ∷ 0 ∷ 19 ∷ 20 ∷ 21 ∷ 22 ∷ 23 ∷ 24 ∷ 25 ∷ 3 ∷ 4 ∷ []) $ again ! Nearer At p (next less r ls.0 long' e₁ e₂) (nearer less))))))))))))))
             (λ over. jumps ! $ exec ! C Λ En mir.t-6 (at_ret En Post) $ ends p (λ j h. p.holds j (lt_of_lt_of_le (rw (← ec) at h) (nltb→le p.i c over))) _)
           where
-            few : Holds (ltb p.i c) → p.i < editLimit
-            few less = (count-there n (rw ec at (ltb→lt p.i c less))).1
+            few : Holds (ltb p.i c) → p.i < edit_limit
+            few less = (count_there n (rw ec at (ltb→lt p.i c less))).1
 
             within : Holds (ltb p.i c) → p.i < n
-            within less = (count-there n (rw ec at (ltb→lt p.i c less))).0
+            within less = (count_there n (rw ec at (ltb→lt p.i c less))).0
 
             fits : Holds (ltb p.i c) → p.i + 1 < 2 ^ 64
-            fits less = lt_of_le_of_lt (omega (arith, few less)) (lit< {m = editLimit} {n = 2 ^ 64} tt)
+            fits less = lt_of_le_of_lt (omega (arith, few less)) (lit< {m = edit_limit} {n = 2 ^ 64} tt)
 
             nearer : Holds (ltb p.i c) → c - (p.i + 1) < c - p.i
             nearer less = omega (arith, ltb→lt p.i c less)
 
-            next : Holds (ltb p.i c) → (r : Edit) (zs' : List ℕ) → length zs' ≡ length p.zs → r ≡ get_or ys p.i none → zs' ≡ withEdit p.zs p.i r → Place
+            next : Holds (ltb p.i c) → (r : Edit) (zs' : List ℕ) → length zs' ≡ length p.zs → r ≡ get_or ys p.i none → zs' ≡ with_edit p.zs p.i r → Place
             next less r zs' l e₁ e₂ = record {
               i = p.i + 1;
               le = omega (arith, ltb→lt p.i c less);
@@ -299,16 +299,16 @@ module _ {M : Type 1} {𝓤 : Ura M} (𝓛 : Logic 𝓤) (mem' : Memory → SPro
             ∷ ‵ (fat full_share slice l₁ 0 s) ∷ ‵ (fdies slice l₁) ∷ ‵ (froom arr l₀ 0) ∷ ‵ (fdies arr l₀) ∷ Token ∷ ‵ Own ∷ []
 
         -- the words are zeros, the place is 0, and the loop follows
-        from-count : Sq 𝓛 Counted (runs C Λ En mir.t-3 (at_ret En Post))
-        from-count =
+        from_count : Sq 𝓛 Counted (runs C Λ En mir.t-3 (at_ret En Post))
+        from_count =
             owned ! u64 (Is u64) (uint_Makes 𝓛 w64) 0 (vint w64 0 ∷ []) (refl, lit< tt) $
-            use1 𝓛 (‵ ((Array u64 listLength).own_val (replicate listLength 0) (array_val (replicate listLength (vint w64 0)) ∷ []))) (Array-repeat 𝓛 u64 (uint_copy 𝓛 w64) listLength 0 (vint w64 0)) $
-            peeks ! (Array u64 listLength) (Is (Array u64 listLength)) (shows 𝓛 (Array u64 listLength)) (replicate listLength 0) (array_val (replicate listLength (vint w64 0)) ∷ []) (λ is.
-            assigns ! (rep ! listLength (lit ! tt)) (from ! (stop !)) (init ! 15 refl ((Array-Lawful 𝓛 u64 (uint_Lawful 𝓛 w64) listLength).typed (replicate listLength 0) _ is).0) $
-            move ! (15 ∷ 0 ∷ []) $ use2 𝓛 (‵ (cells (mem u64) (replicate listLength 0) l₃ 0)) (words-apart 𝓛 listLength l₃ (replicate listLength 0) (array_val (replicate listLength (vint w64 0)))) $
+            use1 𝓛 (‵ ((Array u64 list_length).own_val (replicate list_length 0) (array_val (replicate list_length (vint w64 0)) ∷ []))) (Array-repeat 𝓛 u64 (uint_copy 𝓛 w64) list_length 0 (vint w64 0)) $
+            peeks ! (Array u64 list_length) (Is (Array u64 list_length)) (shows 𝓛 (Array u64 list_length)) (replicate list_length 0) (array_val (replicate list_length (vint w64 0)) ∷ []) (λ is.
+            assigns ! (rep ! list_length (lit ! tt)) (from ! (stop !)) (init ! 15 refl ((Array-Lawful 𝓛 u64 (uint_Lawful 𝓛 w64) list_length).typed (replicate list_length 0) _ is).0) $
+            move ! (15 ∷ 0 ∷ []) $ use2 𝓛 (‵ (cells (mem u64) (replicate list_length 0) l₃ 0)) (words_apart 𝓛 list_length l₃ (replicate list_length 0) (array_val (replicate list_length (vint w64 0)))) $
             assigns ! (of_opd ! (lit ! tt)) (from ! (stop !)) (init ! 13 refl (tt, record { fits = lit< tt })) $ forget ! 9 refl $
             keep ! (1 ∷ 2 ∷ 3 ∷ 4 ∷ 5 ∷ 6 ∷ 7 ∷ 8 ∷ 9 ∷ 10 ∷ 11 ∷ 12 ∷ 13 ∷ 14 ∷ 0 ∷ 15 ∷ 16 ∷ 17 ∷ 18 ∷ 19 ∷ 20 ∷ 21 ∷ 22 ∷ 23 ∷ []) $ first ! $ blocks ! $
-            loops ! 𝓣 Nearer Nearer-wf At turns (record { i = 0; le = zero-le; zs = replicate listLength 0; long = length-replicate {A = ℕ} listLength 0; holds = λ j h. absurd (not-suc-le-zero h) }))
+            loops ! 𝓣 Nearer Nearer-wf At turns (record { i = 0; le = zero-le; zs = replicate list_length 0; long = length-replicate {A = ℕ} list_length 0; holds = λ j h. absurd (not-suc-le-zero h) }))
 
   module _ (𝓣 : Tables 𝓤 H) (known-count : Triple 𝓤 (𝓣.C #editlist·listed-count) (Count 𝓛 mem' run)) (known_at_lem : Triple 𝓤 (𝓣.C #editlist·edit-at) (EditAt 𝓛 mem' run)) (known-put : Triple 𝓤 (𝓣.C #editlist·put-edit) (PutEdit 𝓛 mem' run)) where
     walk : ent 𝓤 (on_entry 𝓛 f.signature (κ, tt) (q, tt) (x, tt) at) (WpFn 𝓤 H 𝓣.C 𝓣.Λ code.function (s ∷ []) Post)
@@ -318,13 +318,13 @@ module _ {M : Type 1} {𝓤 : Ura M} (𝓛 : Logic 𝓤) (mem' : Memory → SPro
         pass1 ! (init ! 18 refl (tt, (tt, (record { fits = gn.0 }, tt)))) $ pass0 ! $
         move ! (23 ∷ []) $ fsplit ! $ keep ! (2 ∷ 3 ∷ 4 ∷ 5 ∷ 6 ∷ 7 ∷ 8 ∷ 9 ∷ 10 ∷ 11 ∷ 12 ∷ 13 ∷ 14 ∷ 15 ∷ 16 ∷ 17 ∷ 18 ∷ 19 ∷ 20 ∷ 21 ∷ 22 ∷ 23 ∷ 24 ∷ 0 ∷ []) $
         assigns ! (of_opd ! (load ! (from ! (fld ! refl (stop !))) (look_in ! 18 (sub ! 1 refl (whole !))))) (from ! (stop !)) (init ! 8 refl (tt, record { fits = gn.0 })) $
-        nothing ! $ use1 𝓛 (raw ((Count 𝓛 mem' run).pre to-count)) goes-count $
-        calls_at ! (fm_of 𝓤 H 𝓛.laws 𝓣) (Count 𝓛 mem' run) known-count to-count (and_then ! (load ! (from ! (stop !)) (look ! 9 refl)) (no_more !)) (λ w.
+        nothing ! $ use1 𝓛 (raw ((Count 𝓛 mem' run).pre to_count)) goes_count $
+        calls_at ! (fm_of 𝓤 H 𝓛.laws 𝓣) (Count 𝓛 mem' run) known-count to_count (and_then ! (load ! (from ! (stop !)) (look ! 9 refl)) (no_more !)) (λ w.
         use1 𝓛 (later (some (λ (c : ℕ). (‵ ftrue ⊛ ‵ (usize.own_val c (w ∷ []))) ⊛ raw (ensured 𝓛 count.ended (count.clauses 𝓛 mem' run) tt (n, tt) tt c)))) (id⊢ 𝓤 _) $ await ! tt $ pick ! (λ c.
-        split ! $ move ! (1 ∷ []) $ use1 𝓛 (raw (fact 𝓤 (c ≡ listedCount n))) (said-count 𝓛 mem' run n c) $ heard ! (c ≡ listedCount n) (λ ec. split ! $ dropped ! $
+        split ! $ move ! (1 ∷ []) $ use1 𝓛 (raw (fact 𝓤 (c ≡ listed_count n))) (said_count 𝓛 mem' run n c) $ heard ! (c ≡ listed_count n) (λ ec. split ! $ dropped ! $
         peeks ! usize (Is usize) (shows 𝓛 usize) c (w ∷ []) (λ is.
         land ! (from ! (stop !)) (init ! 17 refl ((uint_Lawful 𝓛 w64).typed c _ is).0) $ rewrite ! 17 (λ (u : Val). ‵ (fat full_share (ty_int w64) l₂ 0 u)) (ap only is.0) refl $ dropped ! $
-        from-count c ec 𝓣 known_at_lem known-put l₀ l₁ l₂ l₃ l₄ l₅ l₆ l₇ l₈ l₉ l₁₀)))))))))))))))
+        from_count c ec 𝓣 known_at_lem known-put l₀ l₁ l₂ l₃ l₄ l₅ l₆ l₇ l₈ l₉ l₁₀)))))))))))))))
 
 module _ {M : Type 1} {𝓤 : Ura M} (𝓛 : Logic 𝓤) (mem' : Memory → SProp 𝓤) (run : Routine → Fun 𝓤) (𝓣 : Tables 𝓤 𝓛.H) (known-count : Triple 𝓤 (𝓣.C #editlist·listed-count) (Count 𝓛 mem' run)) (known_at_lem : Triple 𝓤 (𝓣.C #editlist·edit-at) (EditAt 𝓛 mem' run)) (known-put : Triple 𝓤 (𝓣.C #editlist·put-edit) (PutEdit 𝓛 mem' run)) where
   open 𝓛 use {H}
@@ -337,9 +337,9 @@ module _ {M : Type 1} {𝓤 : Ura M} (𝓛 : Logic 𝓤) (mem' : Memory → SPro
   meets : Meets 𝓛 f.signature (WpFn 𝓤 H 𝓣.C 𝓣.Λ code.function) (f.spec 𝓛 mem' run)
   meets = walk_Meets 𝓛 f.ended stayed (Goes-none_slice 𝓛 1 (0 ∷ []) tt (plain (λ _. T.the_row)) yes, tt) (f.clauses 𝓛 mem' run) (WpFn 𝓤 H 𝓣.C 𝓣.Λ code.function) (WpFn-mono 𝓤 H 𝓛.laws 𝓣 code.function) walks
 
-pub list-edits-spec : {M : Type 1} → stated.statement M
+pub list_edits_spec : {M : Type 1} → stated.statement M
 unfolding code.routine tables_of
-list-edits-spec 𝓤 𝓛 𝓜 𝓡 =
+list_edits_spec 𝓤 𝓛 𝓜 𝓡 =
     entered 𝓤 𝓛.H (triple_of 𝓛 f.signature (f.spec 𝓛 𝓜.mem 𝓡.run))
     (tables 𝓤 𝓛.H 𝓜 𝓡 code.env).C (tables 𝓤 𝓛.H 𝓜 𝓡 code.env).Λ #editlist·list-edits code.function (code.unfolded 𝓤 𝓛.H 𝓜 𝓡)
     (meets 𝓛 𝓜.mem 𝓡.run (tables_of 𝓤 𝓛.H 𝓜 (tables 𝓤 𝓛.H 𝓜 𝓡 code.env))

@@ -41,8 +41,8 @@ same_length c = search rules
 returns : tie.Need-returns
 returns c = search rules
 
-pub put-edit-spec : {M : Type 1} → statement M
-put-edit-spec =
+pub put_edit_spec : {M : Type 1} → statement M
+put_edit_spec =
     tie.close
     (tie.spec
     mul_at

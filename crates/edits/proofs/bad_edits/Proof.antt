@@ -4,31 +4,31 @@ use mathlib.Core.Bool.{◌||◌}
 use Prim.Native.Nat.{◌-◌, ◌≤◌}
 use borrow.Author.Rules.{rules}
 use borrow.Author.Tests.{lt-ltb, le-ltb}
-use Rattle.editlist.specs.Listed.{editLimit, editsFrom, editsIn}
-use Rattle.editlist.proofs.Listing.{edits-long, edits-start}
-use Rattle.buffers.specs.Buffers.{badTableBy}
-use Rattle.edits.specs.Edits.{anyBad, badEdits}
-use Rattle.edits.proofs.Checking.{bad-next, bad-end}
+use Rattle.editlist.specs.Listed.{edit_limit, edits_from, edits_in}
+use Rattle.editlist.proofs.Listing.{edits_long, edits_start}
+use Rattle.buffers.specs.Buffers.{bad_table_by}
+use Rattle.edits.specs.Edits.{any_bad, bad_edits}
+use Rattle.edits.proofs.Checking.{bad_next, bad_end}
 use Rattle.edits.proofs.bad_edits.Statement.{statement}
 use Rattle.edits.proofs.bad_edits.Tie as tie
 
 abbrev invariant-loop : tie.invariant-loop
 invariant-loop edges n m words count found₀ i₀ found i =
-    (i ≤ count) × ((found || anyBad (badTableBy edges n) m (editsFrom words i (count - i))) ≡ anyBad (badTableBy edges n) m (editsIn words count))
+    (i ≤ count) × ((found || any_bad (bad_table_by edges n) m (edits_from words i (count - i))) ≡ any_bad (bad_table_by edges n) m (edits_in words count))
 
 abbrev decreases-loop : tie.decreases-loop
 decreases-loop edges n m words count found₀ i₀ found i = count - i
 
 returns : tie.Need-returns invariant-loop decreases-loop
-unfolding badEdits
+unfolding bad_edits
 returns c =
     let a = c.before.before.before.args in
-    rw (edits-long a.words.now 0 a.count, lt-ltb editLimit a.count c.if1.true) refl
+    rw (edits_long a.words.now 0 a.count, lt-ltb edit_limit a.count c.if1.true) refl
 
 loop-holds : tie.Need-loop-init invariant-loop decreases-loop
 loop-holds c =
     let a = c.before.before.before.args in
-    (search rules, rw (edits-start a.words.now a.count) refl)
+    (search rules, rw (edits_start a.words.now a.count) refl)
 
 mul_at : tie.Need-overflow-mul-at invariant-loop decreases-loop
 mul_at c = search rules
@@ -70,17 +70,17 @@ loop-again : tie.Need-loop-preserved invariant-loop decreases-loop
 loop-again c =
     let l = c.before.before.before.before.before in
     let a = l.before.before.before.before.args in
-    (search rules, bad-next _ _ _ l.loop.i a.count l.loop.found l.loop.invariant.1 (search rules) c.bad-edit.ensures)
+    (search rules, bad_next _ _ _ l.loop.i a.count l.loop.found l.loop.invariant.1 (search rules) c.bad-edit.ensures)
 
-returns-2 : tie.Need-returns-2 invariant-loop decreases-loop
-unfolding badEdits
-returns-2 c =
+returns_2 : tie.Need-returns-2 invariant-loop decreases-loop
+unfolding bad_edits
+returns_2 c =
     let a = c.before.before.before.before.before.args in
     let l = c.before.loop in
-    rw (edits-long a.words.now 0 a.count, le-ltb editLimit a.count c.before.before.if1.false) (bad-end _ _ _ l.i a.count l.found l.invariant.1 (search rules))
+    rw (edits_long a.words.now 0 a.count, le-ltb edit_limit a.count c.before.before.if1.false) (bad_end _ _ _ l.i a.count l.found l.invariant.1 (search rules))
 
-pub bad-edits-spec : {M : Type 1} → statement M
-bad-edits-spec =
+pub bad_edits_spec : {M : Type 1} → statement M
+bad_edits_spec =
     tie.close
     (tie.spec
     invariant-loop
@@ -100,4 +100,4 @@ bad-edits-spec =
     add-i
     loop-less
     loop-again
-    returns-2)
+    returns_2)

@@ -2,9 +2,9 @@
 use mathlib.Core.Path.{refl, subst}
 use borrow.Author.Rules.{rules}
 use Rattle.plan.specs.Plan.{Ready, Loaded}
-use Rattle.plan.proofs.Plans.{ready-runs}
-use Rattle.calls.proofs.Calls.{handed-on, loaded-judged}
-use Rattle.edits.proofs.Planned.{edits-file}
+use Rattle.plan.proofs.Plans.{ready_runs}
+use Rattle.calls.proofs.Calls.{handed_on, loaded_judged}
+use Rattle.edits.proofs.Planned.{edits_file}
 use Rattle.edits.proofs.edit.Statement.{statement}
 use Rattle.edits.proofs.edit.Tie as tie
 
@@ -36,7 +36,7 @@ refusal-requires c κs = search rules
 returns : tie.Need-returns
 returns c =
     let l = c.before.before.before.before in
-    handed-on _ _ c.before.enum_told.given.1 (loaded-judged _ _ _ l.load.ensures) c.refusal.ensures (refl, refl)
+    handed_on _ _ c.before.enum_told.given.1 (loaded_judged _ _ _ l.load.ensures) c.refusal.ensures (refl, refl)
 
 slice-aggregate-edit-planned : tie.Need-slice-aggregate-edit-planned
 slice-aggregate-edit-planned c = search rules
@@ -45,26 +45,26 @@ slice-aggregate-edit-planned-2 : tie.Need-slice-aggregate-edit-planned-2
 slice-aggregate-edit-planned-2 c = search rules
 
 edit-planned-requires : tie.Need-edit-planned-requires
-edit-planned-requires c κs = (ready-runs _ (ready c.before.before.before.before.before), search rules)
+edit-planned-requires c κs = (ready_runs _ (ready c.before.before.before.before.before), search rules)
 
 same_length : tie.Need-same-length
 same_length c = search rules
 
-same-length-2 : tie.Need-same-length-2
-same-length-2 c = search rules
+same_length_2 : tie.Need-same-length-2
+same_length_2 c = search rules
 
-same-length-3 : tie.Need-same-length-3
-same-length-3 c = search rules
+same_length_3 : tie.Need-same-length-3
+same_length_3 c = search rules
 
-returns-2 : tie.Need-returns-2
-returns-2 c =
+returns_2 : tie.Need-returns-2
+returns_2 c =
     let p = c.before.before.before.before.before.before in
     let k = p.before.before.before.before.before.before in
     let a = (start (load k)).args in
-    edits-file a.file.now (ready k) _ _ _ a.values.now _ p.edit-planned.ensures
+    edits_file a.file.now (ready k) _ _ _ a.values.now _ p.edit-planned.ensures
 
-pub edit-spec : {M : Type 1} → statement M
-edit-spec =
+pub edit_spec : {M : Type 1} → statement M
+edit_spec =
     tie.close
     (tie.spec
     slice-aggregate-load
@@ -77,6 +77,6 @@ edit-spec =
     slice-aggregate-edit-planned-2
     edit-planned-requires
     same_length
-    same-length-2
-    same-length-3
-    returns-2)
+    same_length_2
+    same_length_3
+    returns_2)

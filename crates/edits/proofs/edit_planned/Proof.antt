@@ -1,26 +1,26 @@
 -- `edits::edit_planned` meets its contract: the marks say what the changes of the list touch. Assumes nothing.
 use mathlib.Core.Path.{◌≡◌, ◌∙◌, refl, sym, ap}
-use mathlib.Core.Bool.{Bool, ◌||◌, or-false}
+use mathlib.Core.Bool.{Bool, ◌||◌, or_false}
 use mathlib.Core.List.{List}
 use Prim.Native.Nat.{◌*◌, ◌≤◌}
 use native.Mathlib.Omega.{arith}
 use borrow.Author.Rules.{rules}
 use lib.ListN.{length}
 use Rattle.netlist.specs.Rule.{Env, env}
-use Rattle.netlist.specs.Changes.{touchesAny}
-use Rattle.slicefile.specs.Format.{sliceLimit, inputLimit}
-use Rattle.walks.proofs.Reached.{marks-none}
-use Rattle.editlist.specs.Listed.{editLimit, editsIn}
+use Rattle.netlist.specs.Changes.{touches_any}
+use Rattle.slicefile.specs.Format.{slice_limit, input_limit}
+use Rattle.walks.proofs.Reached.{marks_none}
+use Rattle.editlist.specs.Listed.{edit_limit, edits_in}
 use Rattle.editlist.specs.declared.Edit.{Edit}
-use Rattle.plan.specs.Plan.{planEdges}
-use Rattle.plan.proofs.Plans.{edges-long, parts-walk}
-use Rattle.buffers.proofs.Passed.{edit-passed}
-use Rattle.calls.specs.Calls.{plan-done}
-use Rattle.calls.proofs.Calls.{plan-refused-by}
-use Rattle.edits.specs.Edits.{changesOf, planRefusal}
+use Rattle.plan.specs.Plan.{plan_edges}
+use Rattle.plan.proofs.Plans.{edges_long, parts_walk}
+use Rattle.buffers.proofs.Passed.{edit_passed}
+use Rattle.calls.specs.Calls.{plan_done}
+use Rattle.calls.proofs.Calls.{plan_refused_by}
+use Rattle.edits.specs.Edits.{changes_of, plan_refusal}
 use Rattle.edits.specs.Storing.{AllStorable}
-use Rattle.edits.proofs.Storing.{list-there, stored-bits}
-use Rattle.edits.proofs.Marks.{edited-plan}
+use Rattle.edits.proofs.Storing.{list_there, stored_bits}
+use Rattle.edits.proofs.Marks.{edited_plan}
 use Rattle.edits.proofs.edit_planned.Statement.{statement}
 use Rattle.edits.proofs.edit_planned.Tie as tie
 
@@ -32,11 +32,11 @@ abbrev before : tie.Start → Env
 before b = env b.args.contents.now b.args.flops.now b.args.inputs.now
 
 abbrev edits : tie.Start → List Edit
-edits b = editsIn b.args.words.now b.args.count
+edits b = edits_in b.args.words.now b.args.count
 
 -- the refusal by the plan
 refusal : (k : tie.After-edit-refusal) → let b = start k in
-    k.edit-refusal.result ≡ planRefusal b.args.plan.now b.args.n b.args.m (before b) (edits b) b.args.values.now
+    k.edit-refusal.result ≡ plan_refusal b.args.plan.now b.args.n b.args.m (before b) (edits b) b.args.values.now
 refusal k = rw k.before.before.before.before.before.edges.ensures at (rw k.before.before.before.before.bad-edits.ensures at k.edit-refusal.ensures)
 
 -- the edits are not refused, so the buffers have their lengths and hold bits, and what they change is there
@@ -44,11 +44,11 @@ module _ (c : tie.Else1) where
   abbrev begin : tie.Start
   begin = start c.before
 
-  none : planRefusal begin.args.plan.now begin.args.n begin.args.m (before begin) (edits begin) begin.args.values.now ≡ 0
+  none : plan_refusal begin.args.plan.now begin.args.n begin.args.m (before begin) (edits begin) begin.args.values.now ≡ 0
   none = sym (refusal c.before) ∙ c.if1.false
 
-  there : (begin.args.count ≤ editLimit) × AllStorable (4 * begin.args.n) begin.args.m (changesOf (edits begin))
-  there = list-there (planEdges begin.args.plan.now begin.args.n) begin.args.n begin.args.m begin.args.words.now begin.args.count (edit-passed _ _ _ _ _ _ _ none).3
+  there : (begin.args.count ≤ edit_limit) × AllStorable (4 * begin.args.n) begin.args.m (changes_of (edits begin))
+  there = list_there (plan_edges begin.args.plan.now begin.args.n) begin.args.n begin.args.m begin.args.words.now begin.args.count (edit_passed _ _ _ _ _ _ _ none).3
 
 edges-requires : tie.Need-edges-requires
 edges-requires c κs = search rules
@@ -56,24 +56,24 @@ edges-requires c κs = search rules
 bad-edits-requires : tie.Need-bad-edits-requires
 bad-edits-requires c κs =
     let b = c.before.before.before.before.before.before.before in
-    (b.requires.0.few, edges-long b.requires.0 c.edges.ensures, b.requires.1)
+    (b.requires.0.few, edges_long b.requires.0 c.edges.ensures, b.requires.1)
 
 edit-refusal-requires : tie.Need-edit-refusal-requires
 edit-refusal-requires c κs =
     let b = c.before.before.before.before.before.before.before.before.before.before.before in
-    (b.requires.0.few, edges-long b.requires.0 c.before.before.before.before.edges.ensures)
+    (b.requires.0.few, edges_long b.requires.0 c.before.before.before.before.edges.ensures)
 
 same_length : tie.Need-same-length
 same_length c = search rules
 
-same-length-2 : tie.Need-same-length-2
-same-length-2 c = search rules
+same_length_2 : tie.Need-same-length-2
+same_length_2 c = search rules
 
-same-length-3 : tie.Need-same-length-3
-same-length-3 c = search rules
+same_length_3 : tie.Need-same-length-3
+same_length_3 c = search rules
 
 returns : tie.Need-returns
-returns c = plan-refused-by _ (refusal c.before) c.if1.true (refl, refl)
+returns c = plan_refused_by _ (refusal c.before) c.if1.true (refl, refl)
 
 slice-aggregate-store-edits : tie.Need-slice-aggregate-store-edits
 slice-aggregate-store-edits c = search rules
@@ -85,7 +85,7 @@ store-edits-requires : tie.Need-store-edits-requires
 store-edits-requires c κs =
     let e = c.before.before.before.before in
     let b = begin e in
-    let p = (edit-passed _ _ _ _ _ _ _ (none e)).0 in
+    let p = (edit_passed _ _ _ _ _ _ _ (none e)).0 in
     ((b.pre.1, (there e).0), (rw (p.contents, p.inputs) (there e).1, (omega (arith, p.inputs, b.pre.0.narrow), omega (arith, p.contents, b.pre.0.few))))
 
 table-requires : tie.Need-table-requires
@@ -108,10 +108,10 @@ edit-by-requires c κs =
     let s = t.before.before.before.before.before.before.before in
     let e = s.before.before.before.before.before in
     let b = begin e in
-    let p = edit-passed _ _ _ _ _ _ _ (none e) in
+    let p = edit_passed _ _ _ _ _ _ _ (none e) in
     let same : length s.store-edits.new.1.1.1.0 ≡ length b.args.inputs.now = search rules in
     let long = same ∙ p.0.inputs in
-    ((parts-walk b.pre.0 t.table.ensures c.before.before.before.before.before.order.ensures long, p.0.values), (omega (arith, long, b.pre.0.narrow), search rules, stored-bits _ _ (there e).1 s.store-edits.ensures p.1, p.2))
+    ((parts_walk b.pre.0 t.table.ensures c.before.before.before.before.before.order.ensures long, p.0.values), (omega (arith, long, b.pre.0.narrow), search rules, stored_bits _ _ (there e).1 s.store-edits.ensures p.1, p.2))
 
 same-length-4 : tie.Need-same-length-4
 same-length-4 c = search rules
@@ -122,31 +122,31 @@ same-length-5 c = search rules
 same-length-6 : tie.Need-same-length-6
 same-length-6 c = search rules
 
-returns-2 : tie.Need-returns-2
-returns-2 c =
+returns_2 : tie.Need-returns-2
+returns_2 c =
     let t = c.before.before.before.before.before.before.before.before.before in
     let s = t.before.before.before.before.before.before.before in
     let e = s.before.before.before.before.before in
     let b = begin e in
     let stored = s.store-edits.ensures in
-    let cs = changesOf (edits b) in
-    plan-done (none e) (
+    let cs = changes_of (edits b) in
+    plan_done (none e) (
       stored.made b.args.flops.now,
-      edited-plan b.args.plan.now b.args.n _ _ cs t.table.ensures
-          (λ gate. stored.marked gate ∙ ap (λ (m : Bool). touchesAny cs gate || m) (marks-none inputLimit (4 * sliceLimit) gate) ∙ or-false (touchesAny cs gate))
+      edited_plan b.args.plan.now b.args.n _ _ cs t.table.ensures
+          (λ gate. stored.marked gate ∙ ap (λ (m : Bool). touches_any cs gate || m) (marks_none input_limit (4 * slice_limit) gate) ∙ or_false (touches_any cs gate))
           c.before.before.edit-by.ensures b.args.flops.now,
     )
 
-pub edit-planned-spec : {M : Type 1} → statement M
-edit-planned-spec =
+pub edit_planned_spec : {M : Type 1} → statement M
+edit_planned_spec =
     tie.close
     (tie.spec
     edges-requires
     bad-edits-requires
     edit-refusal-requires
     same_length
-    same-length-2
-    same-length-3
+    same_length_2
+    same_length_3
     returns
     slice-aggregate-store-edits
     slice-aggregate-store-edits-2
@@ -159,4 +159,4 @@ edit-planned-spec =
     same-length-4
     same-length-5
     same-length-6
-    returns-2)
+    returns_2)

@@ -6,7 +6,7 @@ use borrow.Author.Tests.{ne_eqb}
 use lib.ListN.{length}
 use Rattle.netlist.specs.Changes.{OfInput, OfContents}
 use Rattle.edits.specs.Storing.{Storable}
-use Rattle.edits.proofs.Storing.{input-stored, contents-stored}
+use Rattle.edits.proofs.Storing.{input_stored, contents_stored}
 use Rattle.edits.proofs.store_edit.Statement.{statement}
 use Rattle.edits.proofs.store_edit.Tie as tie
 
@@ -45,27 +45,27 @@ slice-write-edited c = table-marked c
 same_length : tie.Need-same-length
 same_length c = search rules
 
-same-length-2 : tie.Need-same-length-2
-same-length-2 c = search rules
+same_length_2 : tie.Need-same-length-2
+same_length_2 c = search rules
 
 returns : tie.Need-returns
 returns c =
     let a = c.before.args in
-    rw c.if1.true (input-stored a.contents.now a.inputs.now a.changed.now a.edited.now a.number a.value (input-marked c))
+    rw c.if1.true (input_stored a.contents.now a.inputs.now a.changed.now a.edited.now a.number a.value (input-marked c))
 
-same-length-3 : tie.Need-same-length-3
-same-length-3 c = search rules
+same_length_3 : tie.Need-same-length-3
+same_length_3 c = search rules
 
 same-length-4 : tie.Need-same-length-4
 same-length-4 c = search rules
 
-returns-2 : tie.Need-returns-2
-returns-2 c =
+returns_2 : tie.Need-returns-2
+returns_2 c =
     let a = c.before.args in
-    rw (ne_eqb a.kind 0 c.if1.false) (contents-stored a.contents.now a.inputs.now a.changed.now a.edited.now a.number a.value (table-marked c))
+    rw (ne_eqb a.kind 0 c.if1.false) (contents_stored a.contents.now a.inputs.now a.changed.now a.edited.now a.number a.value (table-marked c))
 
-pub store-edit-spec : {M : Type 1} → statement M
-store-edit-spec =
+pub store_edit_spec : {M : Type 1} → statement M
+store_edit_spec =
     tie.close
     (tie.spec
     cast-inputs
@@ -75,8 +75,8 @@ store-edit-spec =
     slice-write-contents
     slice-write-edited
     same_length
-    same-length-2
+    same_length_2
     returns
-    same-length-3
+    same_length_3
     same-length-4
-    returns-2)
+    returns_2)

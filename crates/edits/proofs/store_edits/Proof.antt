@@ -3,7 +3,7 @@ use Prim.Native.Nat.{◌-◌, ◌≤◌}
 use native.Mathlib.Omega.{arith}
 use borrow.Author.Rules.{rules}
 use Rattle.edits.specs.Storing.{store}
-use Rattle.edits.proofs.Storing.{Before, before-first, next-there, before-next, before-end}
+use Rattle.edits.proofs.Storing.{Before, before_first, next_there, before_next, before_end}
 use Rattle.edits.proofs.store_edits.Statement.{statement}
 use Rattle.edits.proofs.store_edits.Tie as tie
 
@@ -21,7 +21,7 @@ start l = l.before.before.before.before.before.before
 loop-holds : tie.Need-loop-init invariant-loop decreases-loop
 loop-holds c =
     let a = c.before.before.before.before.before.args in
-    (search rules, before-first a.words.now a.count _ c.before.before.before.before.before.requires.1.0)
+    (search rules, before_first a.words.now a.count _ c.before.before.before.before.before.requires.1.0)
 
 mul_at : tie.Need-overflow-mul-at invariant-loop decreases-loop
 mul_at c = search rules
@@ -56,7 +56,7 @@ store-edit-requires c κs =
     let a = (start l).args in
     let same = l.loop.invariant.1.same in
     let marks = (start l).requires.1.1 in
-    (next-there a.words.now a.count _ l.loop.i l.loop.invariant.1 (search rules), (omega (arith, same.inputs, same.changed, marks.0), omega (arith, same.contents, same.edited, marks.1)))
+    (next_there a.words.now a.count _ l.loop.i l.loop.invariant.1 (search rules), (omega (arith, same.inputs, same.changed, marks.0), omega (arith, same.contents, same.edited, marks.1)))
 
 add-i : tie.Need-overflow-add-i invariant-loop decreases-loop
 add-i c = search rules
@@ -68,16 +68,16 @@ loop-again : tie.Need-loop-preserved invariant-loop decreases-loop
 loop-again c =
     let l = c.before.before.before.before.before.before.before.before.before.before.before.before.before.before.before.before.before in
     let a = (start l).args in
-    (search rules, before-next a.words.now a.count _ l.loop.i l.loop.invariant.1 (search rules) (record { contents = search rules; inputs = search rules; changed = search rules; edited = search rules }) c.before.before.before.before.before.before.before.before.store-edit.ensures)
+    (search rules, before_next a.words.now a.count _ l.loop.i l.loop.invariant.1 (search rules) (record { contents = search rules; inputs = search rules; changed = search rules; edited = search rules }) c.before.before.before.before.before.before.before.before.store-edit.ensures)
 
 same_length : tie.Need-same-length invariant-loop decreases-loop
 same_length c = search rules
 
-same-length-2 : tie.Need-same-length-2 invariant-loop decreases-loop
-same-length-2 c = search rules
+same_length_2 : tie.Need-same-length-2 invariant-loop decreases-loop
+same_length_2 c = search rules
 
-same-length-3 : tie.Need-same-length-3 invariant-loop decreases-loop
-same-length-3 c = search rules
+same_length_3 : tie.Need-same-length-3 invariant-loop decreases-loop
+same_length_3 c = search rules
 
 same-length-4 : tie.Need-same-length-4 invariant-loop decreases-loop
 same-length-4 c = search rules
@@ -85,10 +85,10 @@ same-length-4 c = search rules
 returns : tie.Need-returns invariant-loop decreases-loop
 returns c =
     let a = (start c.before).args in
-    before-end a.words.now a.count _ c.before.loop.i c.before.loop.invariant.1 (search rules)
+    before_end a.words.now a.count _ c.before.loop.i c.before.loop.invariant.1 (search rules)
 
-pub store-edits-spec : {M : Type 1} → statement M
-store-edits-spec =
+pub store_edits_spec : {M : Type 1} → statement M
+store_edits_spec =
     tie.close
     (tie.spec
     invariant-loop
@@ -108,7 +108,7 @@ store-edits-spec =
     loop-less
     loop-again
     same_length
-    same-length-2
-    same-length-3
+    same_length_2
+    same_length_3
     same-length-4
     returns)

@@ -4,8 +4,8 @@ use Prim.Native.Nat.{ℕ, ◌+◌, ◌*◌, ◌-◌, ◌%◌, ◌<◌}
 use native.Mathlib.Omega.{arith}
 use lib.ListN.{length, get_or}
 use Rattle.netlist.specs.Rule.{bit_at}
-use Rattle.netlist.specs.Table.{rowLength}
-use Rattle.evaluation.proofs.Gates.{rule-lut, rule-zero, rule-select, rule_xor, rule-same, choose-by}
+use Rattle.netlist.specs.Table.{row_length}
+use Rattle.evaluation.proofs.Gates.{rule_lut, rule_zero, rule_select, rule_xor, rule_same, choose_by}
 use borrow.Author.Rules.{rules}
 use Rattle.evaluation.proofs.gate_value.Statement.{statement}
 use Rattle.evaluation.proofs.gate_value.Tie as tie
@@ -14,9 +14,9 @@ abbrev start : tie.After-shared-slice-known4 → tie.Start
 start c = c.before.before.before.before
 
 -- a source of the row is a wire
-is-wire : (s : tie.Start) (i : ℕ) → 0 < i → i < rowLength → get_or s.args.table.now (rowLength * s.args.x + i) 0 < length s.args.wires.now
+is-wire : (s : tie.Start) (i : ℕ) → 0 < i → i < row_length → get_or s.args.table.now (row_length * s.args.x + i) 0 < length s.args.wires.now
 is-wire s i a b =
-    let e : rowLength * s.args.x + 1 + (i - 1) ≡ rowLength * s.args.x + i = omega arith in
+    let e : row_length * s.args.x + 1 + (i - 1) ≡ row_length * s.args.x + i = omega arith in
     rw e at (s.requires.1.0 (i - 1) (omega arith))
 
 mul_at : tie.Need-overflow-mul-at
@@ -46,8 +46,8 @@ contents-bit-requires c κs = search rules
 returns : tie.Need-returns
 returns c flops =
     let a = (start c.before.before.before).args in
-    c.contents-bit.ensures ∙ ap (bit_at (get_or a.contents.now (get_or a.table.now (rowLength * a.x) 0) 0)) c.before.number-on.ensures.0
-    ∙ sym (rule-lut a.contents.now flops a.wires.now a.table.now a.n a.x c.before.before.if1.true)
+    c.contents-bit.ensures ∙ ap (bit_at (get_or a.contents.now (get_or a.table.now (row_length * a.x) 0) 0)) c.before.number_on_lem.ensures.0
+    ∙ sym (rule_lut a.contents.now flops a.wires.now a.table.now a.n a.x c.before.before.if1.true)
 
 add-wire : tie.Need-overflow-add-wire
 add-wire c = search rules
@@ -94,23 +94,23 @@ add-sum c = search rules
 mul-if2 : tie.Need-overflow-mul-if2
 mul-if2 c = search rules
 
-returns-2 : tie.Need-returns-2
-returns-2 c flops =
+returns_2 : tie.Need-returns-2
+returns_2 c flops =
     let e = c.before.before.before.before.before.before.before.before in
     let a = (start e.before).args in
-    sym (rule-zero a.contents.now flops a.wires.now a.table.now a.n a.x e.if1.false c.if2.true)
+    sym (rule_zero a.contents.now flops a.wires.now a.table.now a.n a.x e.if1.false c.if2.true)
 
 mul-if3 : tie.Need-overflow-mul-if3
 mul-if3 c = search rules
 
-returns-3 : tie.Need-returns-3
-returns-3 c flops =
+returns_3 : tie.Need-returns-3
+returns_3 c flops =
     let h = c.before.before in
     let e = h.before.before.before.before.before.before.before in
     let a = (start e.before).args in
     h.choose.ensures
-    ∙ choose-by h.before.before.before.before.before.wire.ensures.0 h.before.before.before.wire2.ensures.0 h.before.wire3.ensures.0
-    ∙ sym (rule-select a.contents.now flops a.wires.now a.table.now a.n a.x e.if1.false c.before.if2.false c.if3.true)
+    ∙ choose_by h.before.before.before.before.before.wire.ensures.0 h.before.before.before.wire2.ensures.0 h.before.wire3.ensures.0
+    ∙ sym (rule_select a.contents.now flops a.wires.now a.table.now a.n a.x e.if1.false c.before.if2.false c.if3.true)
 
 mul-if4 : tie.Need-overflow-mul-if4
 mul-if4 c = search rules
@@ -133,10 +133,10 @@ returns-5 c flops =
     let s = start e.before in
     let a = s.args in
     h.before.before.before.before.before.wire.ensures.0
-    ∙ sym (rule-same a.contents.now flops a.wires.now a.table.now a.n a.x e.if1.false c.before.before.if2.false c.before.if3.false c.if4.false s.pre.0.2)
+    ∙ sym (rule_same a.contents.now flops a.wires.now a.table.now a.n a.x e.if1.false c.before.before.if2.false c.before.if3.false c.if4.false s.pre.0.2)
 
-pub gate-value-spec : {M : Type 1} → statement M
-gate-value-spec =
+pub gate_value_spec : {M : Type 1} → statement M
+gate_value_spec =
     tie.close
     (tie.spec
     mul_at
@@ -163,9 +163,9 @@ gate-value-spec =
     choose-requires
     add-sum
     mul-if2
-    returns-2
+    returns_2
     mul-if3
-    returns-3
+    returns_3
     mul-if4
     add-if4
     returns-4

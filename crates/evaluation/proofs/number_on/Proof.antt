@@ -7,20 +7,20 @@ use native.Mathlib.Omega.{arith}
 use borrow.Author.Rules.{rules}
 use lib.Dec.{lit<}
 use lib.Pow.{pow_mono}
-use Rattle.evaluation.specs.Numbers.{numberOn}
-use Rattle.evaluation.proofs.Numbers.{number_more, small-more}
+use Rattle.evaluation.specs.Numbers.{number_on}
+use Rattle.evaluation.proofs.Numbers.{number_more, small_more}
 use Rattle.evaluation.proofs.number_on.Statement.{statement}
 use Rattle.evaluation.proofs.number_on.Tie as tie
 
 abbrev invariant-loop : tie.invariant-loop
 invariant-loop numbers i k wires number₀ j₀ number j =
-    (j ≤ k) × (number ≡ numberOn wires numbers (i + j) (k - j)) × (number < 2 ^ (k - j))
+    (j ≤ k) × (number ≡ number_on wires numbers (i + j) (k - j)) × (number < 2 ^ (k - j))
 
 abbrev decreases-loop : tie.decreases-loop
 decreases-loop numbers i k wires number₀ j₀ number j = j
 
 loop-holds : tie.Need-loop-init invariant-loop decreases-loop
-unfolding numberOn
+unfolding number_on
 loop-holds c =
     let k = c.before.before.args.k in
     let none : k - k ≡ 0 = omega arith in
@@ -63,7 +63,7 @@ loop-again c =
     let more : 0 < l.j = omega arith in (
       omega arith,
       rw (number_more a.wires.now a.numbers.now a.i l.j a.k more l.invariant.0, c.wire.ensures.0, l.invariant.1),
-      small-more a.wires.now a.numbers.now a.i l.j a.k more l.invariant.0 l.invariant.2 c.wire.ensures.1,
+      small_more a.wires.now a.numbers.now a.i l.j a.k more l.invariant.0 l.invariant.2 c.wire.ensures.1,
     )
 
 returns : tie.Need-returns invariant-loop decreases-loop
@@ -74,8 +74,8 @@ returns c =
     let all : a.k - l.j ≡ a.k = omega arith in
     (rw (place, all) at l.invariant.1, rw all at l.invariant.2)
 
-pub number-on-spec : {M : Type 1} → statement M
-number-on-spec =
+pub number_on_spec : {M : Type 1} → statement M
+number_on_spec =
     tie.close
     (tie.spec
     invariant-loop

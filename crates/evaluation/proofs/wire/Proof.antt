@@ -10,5 +10,5 @@ shared-slice-read-result c = search rules
 returns : tie.Need-returns
 returns c = (refl, c.before.requires.1 _)
 
-pub wire-spec : {M : Type 1} → statement M
-wire-spec = tie.close (tie.spec shared-slice-read-result returns)
+pub wire_spec : {M : Type 1} → statement M
+wire_spec = tie.close (tie.spec shared-slice-read-result returns)

@@ -7,11 +7,11 @@ use Rattle.framing.proofs.body_length.Tie as tie
 returns : tie.Need-returns
 returns c = search (rules, eq-eqb)
 
-returns-2 : tie.Need-returns-2
-returns-2 c = search (rules, eq-eqb, ne_eqb)
+returns_2 : tie.Need-returns-2
+returns_2 c = search (rules, eq-eqb, ne_eqb)
 
-returns-3 : tie.Need-returns-3
-returns-3 c = search (rules, ne_eqb)
+returns_3 : tie.Need-returns-3
+returns_3 c = search (rules, ne_eqb)
 
-pub body-length-spec : {M : Type 1} → statement M
-body-length-spec = tie.close (tie.spec returns returns-2 returns-3)
+pub body_length_spec : {M : Type 1} → statement M
+body_length_spec = tie.close (tie.spec returns returns_2 returns_3)

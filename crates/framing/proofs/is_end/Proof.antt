@@ -27,11 +27,11 @@ shared-slice-read-result-3 c = search rules
 array-read-result-3 : tie.Need-array-read-result-3
 array-read-result-3 c = search rules
 
-returns-2 : tie.Need-returns-2
-returns-2 c = end_test c.before.before.before.before.args.s.now c.before.before.before.if1.false
+returns_2 : tie.Need-returns-2
+returns_2 c = end_test c.before.before.before.before.args.s.now c.before.before.before.if1.false
 
-pub is-end-spec : {M : Type 1} → statement M
-is-end-spec =
+pub is_end_spec : {M : Type 1} → statement M
+is_end_spec =
     tie.close
     (tie.spec
     returns
@@ -41,4 +41,4 @@ is-end-spec =
     array-read-result-2
     shared-slice-read-result-3
     array-read-result-3
-    returns-2)
+    returns_2)

@@ -3,10 +3,10 @@ use mathlib.Core.Path.{◌∙◌, sym}
 use Prim.Native.Nat.{◌≤◌}
 use native.Mathlib.Omega.{arith}
 use lib.ListN.{length}
-use Rattle.slicefile.specs.Format.{sizeTag, recordLength}
-use Rattle.framing.specs.Framing.{sizeRefusal}
-use Rattle.rules.proofs.Refusals.{orElse-first}
-use Rattle.framing.proofs.RecordLaws.{header-whole}
+use Rattle.slicefile.specs.Format.{size_tag, record_length}
+use Rattle.framing.specs.Framing.{size_refusal}
+use Rattle.rules.proofs.Refusals.{or_else_first}
+use Rattle.framing.proofs.RecordLaws.{header_whole}
 use borrow.Author.Rules.{rules}
 use Rattle.framing.proofs.size_refusal.Statement.{statement}
 use Rattle.framing.proofs.size_refusal.Tie as tie
@@ -14,14 +14,14 @@ use Rattle.framing.proofs.size_refusal.Tie as tie
 header-refusal-requires : tie.Need-header-refusal-requires
 header-refusal-requires c κs = search rules
 
-whole : (c : tie.Else1) → recordLength sizeTag ≤ length c.before.before.before.args.s.now
-whole c = header-whole sizeTag c.before.before.before.args.s.now (sym c.before.header-refusal.ensures ∙ c.if1.false)
+whole : (c : tie.Else1) → record_length size_tag ≤ length c.before.before.before.args.s.now
+whole c = header_whole size_tag c.before.before.before.args.s.now (sym c.before.header-refusal.ensures ∙ c.if1.false)
 
 returns : tie.Need-returns
-unfolding sizeRefusal
+unfolding size_refusal
 returns c =
     let e = c.before.header-refusal.ensures in
-    e ∙ orElse-first _ _ (λ z. c.if1.true (e ∙ z))
+    e ∙ or_else_first _ _ (λ z. c.if1.true (e ∙ z))
 
 shared-slice-read-n : tie.Need-shared-slice-read-n
 shared-slice-read-n c = omega (arith, whole c.before)
@@ -38,16 +38,16 @@ cast-m c = omega (arith, c.shared-slice-known3.given 4)
 bad-size-requires : tie.Need-bad-size-requires
 bad-size-requires c κs = search rules
 
-returns-2 : tie.Need-returns-2
-unfolding sizeRefusal
-returns-2 c = simp (← c.before.before.before.before.before.header-refusal.ensures, c.before.before.before.before.if1.false, ← c.before.bad-size.ensures, c.if2.true)
+returns_2 : tie.Need-returns-2
+unfolding size_refusal
+returns_2 c = simp (← c.before.before.before.before.before.header-refusal.ensures, c.before.before.before.before.if1.false, ← c.before.bad-size.ensures, c.if2.true)
 
-returns-3 : tie.Need-returns-3
-unfolding sizeRefusal
-returns-3 c = simp (← c.before.before.before.before.before.header-refusal.ensures, c.before.before.before.before.if1.false, ← c.before.bad-size.ensures, c.if2.false)
+returns_3 : tie.Need-returns-3
+unfolding size_refusal
+returns_3 c = simp (← c.before.before.before.before.before.header-refusal.ensures, c.before.before.before.before.if1.false, ← c.before.bad-size.ensures, c.if2.false)
 
-pub size-refusal-spec : {M : Type 1} → statement M
-size-refusal-spec =
+pub size_refusal_spec : {M : Type 1} → statement M
+size_refusal_spec =
     tie.close
     (tie.spec
     header-refusal-requires
@@ -57,5 +57,5 @@ size-refusal-spec =
     shared-slice-read-m
     cast-m
     bad-size-requires
-    returns-2
-    returns-3)
+    returns_2
+    returns_3)

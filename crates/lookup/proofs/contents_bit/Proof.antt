@@ -19,10 +19,10 @@ cast-result c = search rules
 returns : tie.Need-returns
 returns c = search rules
 
-returns-2 : tie.Need-returns-2
-returns-2 c = past_end c.before.args.contents.now _ c.before.args.k c.if1.false
+returns_2 : tie.Need-returns-2
+returns_2 c = past_end c.before.args.contents.now _ c.before.args.k c.if1.false
 
-pub contents-bit-spec : {M : Type 1} → statement M
-contents-bit-spec =
+pub contents_bit_spec : {M : Type 1} → statement M
+contents_bit_spec =
     tie.close
-    (tie.spec mul-result shared-slice-read-result shr-result cast-result returns returns-2)
+    (tie.spec mul-result shared-slice-read-result shr-result cast-result returns returns_2)

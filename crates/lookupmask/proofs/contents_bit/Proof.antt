@@ -17,12 +17,12 @@ shared-slice-read-if2 c = search rules
 returns : tie.Need-returns
 returns c = clear _ _ c.before.before.before.requires c.if2.true
 
-returns-2 : tie.Need-returns-2
-returns-2 c = set _ _ c.before.before.before.requires c.if2.false
+returns_2 : tie.Need-returns-2
+returns_2 c = set _ _ c.before.before.before.requires c.if2.false
 
-returns-3 : tie.Need-returns-3
-returns-3 c = past_end c.before.args.contents.now _ c.before.args.k c.if1.false
+returns_3 : tie.Need-returns-3
+returns_3 c = past_end c.before.args.contents.now _ c.before.args.k c.if1.false
 
-pub contents-bit-spec : {M : Type 1} → statement M
-contents-bit-spec =
-    tie.close (tie.spec shl-mask mul-if2 shared-slice-read-if2 returns returns-2 returns-3)
+pub contents_bit_spec : {M : Type 1} → statement M
+contents_bit_spec =
+    tie.close (tie.spec shl-mask mul-if2 shared-slice-read-if2 returns returns_2 returns_3)

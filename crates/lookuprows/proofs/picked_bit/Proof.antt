@@ -28,5 +28,5 @@ returns c =
     let place : (a.pick % 64 + a.on) % 64 ≡ (a.pick + a.on) % 64 = omega arith in
     (c.contents-bit.ensures ∙ ap (bit_at (get_or a.contents.now (a.pick / 64) 0)) place, rw c.contents-bit.ensures (mod-lt _ (lit< tt)))
 
-pub picked-bit-spec : {M : Type 1} → statement M
-picked-bit-spec = tie.close (tie.spec cast-k add-k cast-contents-bit contents-bit-requires returns)
+pub picked_bit_spec : {M : Type 1} → statement M
+picked_bit_spec = tie.close (tie.spec cast-k add-k cast-contents-bit contents-bit-requires returns)

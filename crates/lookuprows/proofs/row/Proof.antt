@@ -7,19 +7,19 @@ use native.Mathlib.Omega.{arith}
 use borrow.Author.Rules.{rules}
 use lib.Dec.{lit<}
 use lib.ListN.{length}
-use Rattle.lookuprows.specs.Rows.{lastBit, summed}
+use Rattle.lookuprows.specs.Rows.{last_bit, summed}
 use Rattle.lookuprows.proofs.row.Statement.{statement}
 use Rattle.lookuprows.proofs.row.Tie as tie
 
 abbrev invariant-loop : tie.invariant-loop
 invariant-loop contents picks link sum₀ bit₀ i₀ sum bit i =
-    (i ≤ length picks) × (sum ≡ summed contents picks link i) × (sum ≤ i) × (bit ≡ lastBit contents picks link i) × (bit < 2)
+    (i ≤ length picks) × (sum ≡ summed contents picks link i) × (sum ≤ i) × (bit ≡ last_bit contents picks link i) × (bit < 2)
 
 abbrev decreases-loop : tie.decreases-loop
 decreases-loop contents picks link sum₀ bit₀ i₀ sum bit i = length picks - i
 
 loop-holds : tie.Need-loop-init invariant-loop decreases-loop
-unfolding lastBit summed
+unfolding last_bit summed
 loop-holds c = (search rules, refl, search rules, refl, lit< tt)
 
 mul-picked-bit : tie.Need-overflow-mul-picked-bit invariant-loop decreases-loop
@@ -53,7 +53,7 @@ loop-less : tie.Need-loop-smaller invariant-loop decreases-loop
 loop-less c = omega arith
 
 loop-again : tie.Need-loop-preserved invariant-loop decreases-loop
-unfolding lastBit summed
+unfolding last_bit summed
 loop-again c =
     let l = c.before.before.before.loop in
     let bit = rw l.invariant.3 at c.picked-bit.ensures.0 in
@@ -64,8 +64,8 @@ returns c =
     let all : c.before.loop.i ≡ length c.before.before.before.before.args.picks.now = omega arith in
     rw all at c.before.loop.invariant.1
 
-pub row-spec : {M : Type 1} → statement M
-row-spec =
+pub row_spec : {M : Type 1} → statement M
+row_spec =
     tie.close
     (tie.spec
     invariant-loop

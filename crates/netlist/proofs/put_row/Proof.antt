@@ -9,18 +9,18 @@ use borrow.Kind.Array.{e_int, good_length}
 use lib.Dec.{lit<}
 use lib.ListN.{length, get_or, drop, length-set, drop_of_length-le}
 use lib.Seq.{sets, drop-cons}
-use Rattle.netlist.specs.Table.{rowLength}
+use Rattle.netlist.specs.Table.{row_length}
 use lib.ListN.{length-set}
 use Rattle.netlist.proofs.put_row.Statement.{statement}
 use Rattle.netlist.proofs.put_row.Tie as tie
 
 -- a row is its seven numbers
 whole :
-    (row : List ℕ) → length row ≡ rowLength
+    (row : List ℕ) → length row ≡ row_length
     → row ≡ get_or row 0 0 ∷ get_or row 1 0 ∷ get_or row 2 0 ∷ get_or row 3 0 ∷ get_or row 4 0 ∷ get_or row 5 0 ∷ get_or row 6 0 ∷ []
 whole row e =
-    let at : (i : ℕ) → i < rowLength → drop i row ≡ get_or row i 0 ∷ drop (suc i) row = λ i h. drop-cons row i 0 (omega arith) in
-    let end : drop rowLength row ≡ [] = drop_of_length-le row {i = rowLength} (omega arith) in
+    let at : (i : ℕ) → i < row_length → drop i row ≡ get_or row i 0 ∷ drop (suc i) row = λ i h. drop-cons row i 0 (omega arith) in
+    let end : drop row_length row ≡ [] = drop_of_length-le row {i = row_length} (omega arith) in
     at 0 (lit< tt)
     ∙ ap (λ (rest : List ℕ). get_or row 0 0 ∷ rest)
     (rw (at 1 (lit< tt), at 2 (lit< tt), at 3 (lit< tt), at 4 (lit< tt), at 5 (lit< tt), at 6 (lit< tt), end))
@@ -124,12 +124,12 @@ same_length c = simp length-set
 returns : tie.Need-returns
 returns c =
     let a = c.args in
-    let e = places (rowLength * a.x) in
+    let e = places (row_length * a.x) in
     rw (e.0, e.1, e.2, e.3, e.4, e.5)
-    (ap (sets a.table.now (rowLength * a.x)) (sym (whole a.t3 (good_length (e_int w16) rowLength a.t3 _ c.well-formed.1.1.0))))
+    (ap (sets a.table.now (row_length * a.x)) (sym (whole a.t3 (good_length (e_int w16) row_length a.t3 _ c.well_formed.1.1.0))))
 
-pub put-row-spec : {M : Type 1} → statement M
-put-row-spec =
+pub put_row_spec : {M : Type 1} → statement M
+put_row_spec =
     tie.close
     (tie.spec
     mul_at

@@ -5,7 +5,7 @@ use native.Mathlib.Omega.{arith}
 use borrow.Author.Rules.{rules}
 use lib.ListN.{length, get_or}
 use Rattle.lent.specs.Put.{Put}
-use Rattle.lent.proofs.Putting.{put-none, put_next}
+use Rattle.lent.proofs.Putting.{put_none, put_next}
 use Rattle.plan.proofs.copy_to.Statement.{statement}
 use Rattle.plan.proofs.copy_to.Tie as tie
 
@@ -16,7 +16,7 @@ abbrev decreases-loop : tie.decreases-loop
 decreases-loop to₀ at from i₀ to i = length from - i
 
 loop-holds : tie.Need-loop-init invariant-loop decreases-loop
-loop-holds c = (search rules, put-none _ _ _)
+loop-holds c = (search rules, put_none _ _ _)
 
 mul-to : tie.Need-overflow-mul-to invariant-loop decreases-loop
 mul-to c = omega arith
@@ -51,8 +51,8 @@ returns c =
     let e : l.i ≡ length c.before.before.args.from.now = omega arith in
     rw e at l.invariant.1
 
-pub copy-to-spec : {M : Type 1} → statement M
-copy-to-spec =
+pub copy_to_spec : {M : Type 1} → statement M
+copy_to_spec =
     tie.close
     (tie.spec
     invariant-loop

@@ -4,16 +4,16 @@ use native.Mathlib.Omega.{arith}
 use borrow.Author.Rules.{rules}
 use lib.ListN.{length, take, drop, length-append, length-drop}
 use lib.Seq.{length-take-le}
-use Rattle.column.specs.Compile.{tableLimit}
-use Rattle.column.proofs.SoundLaws.{sound-file}
-use Rattle.column.proofs.Verdicts.{accepted-sound}
-use Rattle.plan.proofs.Plans.{netlist-longer, loaded-refused}
+use Rattle.column.specs.Compile.{table_limit}
+use Rattle.column.proofs.SoundLaws.{sound_file}
+use Rattle.column.proofs.Verdicts.{accepted_sound}
+use Rattle.plan.proofs.Plans.{netlist_longer, loaded_refused}
 use Rattle.plan.proofs.load.Statement.{statement}
 use Rattle.plan.proofs.load.Tie as tie
 
 -- the front of the buffer that the gate table is lowered into
-front : (b : tie.Start) → length (take tableLimit b.args.plan.now) ≡ tableLimit
-front b = length-take-le tableLimit b.args.plan.now (omega (arith, b.requires))
+front : (b : tie.Start) → length (take table_limit b.args.plan.now) ≡ table_limit
+front b = length-take-le table_limit b.args.plan.now (omega (arith, b.requires))
 
 slice-relend-prefix-load : tie.Need-slice-relend-prefix-load
 slice-relend-prefix-load c = search rules
@@ -39,7 +39,7 @@ same_length c = search rules
 returns : tie.Need-returns
 returns c =
     let l = c.before.before.before.before.before in
-    loaded-refused _ _ _ _ c.enum_told.given.1 l.load.ensures
+    loaded_refused _ _ _ _ c.enum_told.given.1 l.load.ensures
 
 slice-aggregate-complete : tie.Need-slice-aggregate-complete
 slice-aggregate-complete c = search rules
@@ -50,17 +50,17 @@ complete-requires c κs =
     let l = v.before.before.before.before.before in
     let b = l.before.before.before.before.before in
     let n = l.load.new.1.0 in
-    let rest = drop tableLimit b.args.plan.now in
-    let sized : length n ≡ tableLimit = l.load.auto.1.0 ∙ front b in
+    let rest = drop table_limit b.args.plan.now in
+    let sized : length n ≡ table_limit = l.load.auto.1.0 ∙ front b in
     let r = rw v.v.given.1 at l.load.ensures in
-    let few = (sound-file b.args.file.now (accepted-sound b.args.file.now r.verdict)).slices-fit in
-    (netlist-longer b.args.file.now rest (omega (arith, sized, few)) r, (l.load.auto.1.1.0, omega (arith, length-append n rest, length-drop tableLimit b.args.plan.now, sized, b.requires)))
+    let few = (sound_file b.args.file.now (accepted_sound b.args.file.now r.verdict)).slices_fit in
+    (netlist_longer b.args.file.now rest (omega (arith, sized, few)) r, (l.load.auto.1.1.0, omega (arith, length-append n rest, length-drop table_limit b.args.plan.now, sized, b.requires)))
 
-same-length-2 : tie.Need-same-length-2
-same-length-2 c = search rules
+same_length_2 : tie.Need-same-length-2
+same_length_2 c = search rules
 
-returns-2 : tie.Need-returns-2
-returns-2 c = search rules
+returns_2 : tie.Need-returns-2
+returns_2 c = search rules
 
 pub load_spec : {M : Type 1} → statement M
 load_spec =
@@ -76,5 +76,5 @@ load_spec =
     returns
     slice-aggregate-complete
     complete-requires
-    same-length-2
-    returns-2)
+    same_length_2
+    returns_2)

@@ -3,7 +3,7 @@ use mathlib.Core.Path.{◌≡◌}
 use Prim.Native.Nat.{◌*◌}
 use native.Mathlib.Omega.{arith}
 use borrow.Author.Rules.{rules}
-use Rattle.plan.specs.Plan.{orderPlace}
+use Rattle.plan.specs.Plan.{order_place}
 use Rattle.plan.proofs.Parts.{from_place}
 use Rattle.plan.proofs.order.Statement.{statement}
 use Rattle.plan.proofs.order.Tie as tie
@@ -34,11 +34,11 @@ part-result-end c = search rules
 
 returns : tie.Need-returns
 returns c =
-    let at : orderPlace c.before.args.n ≡ 251 * c.before.args.n = omega arith in
+    let at : order_place c.before.args.n ≡ 251 * c.before.args.n = omega arith in
     rw at (simp from_place)
 
-pub order-spec : {M : Type 1} → statement M
-order-spec =
+pub order_spec : {M : Type 1} → statement M
+order_spec =
     tie.close
     (tie.spec
     add_at

@@ -15,5 +15,5 @@ slice-aggregate-result c = sym (length-take-le _ c.before.args.plan.now (omega a
 returns : tie.Need-returns
 returns c = search rules
 
-pub table-spec : {M : Type 1} → statement M
-table-spec = tie.close (tie.spec mul-result slice-aggregate-result returns)
+pub table_spec : {M : Type 1} → statement M
+table_spec = tie.close (tie.spec mul-result slice-aggregate-result returns)

@@ -24,8 +24,8 @@ returns c =
     let words = c.before.before.before.before.before.args.state.now in
     ap (λ (x : Reply). reader (get_or words 0 0) (get_or words 1 0) x) c.unpack-reply.ensures
 
-pub load-reader-spec : {M : Type 1} → statement M
-load-reader-spec =
+pub load_reader_spec : {M : Type 1} → statement M
+load_reader_spec =
     tie.close
     (tie.spec
     shared-slice-read-t3

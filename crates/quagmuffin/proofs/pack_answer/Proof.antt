@@ -3,7 +3,7 @@ use mathlib.Core.Path.{◌∙◌, sym, ap, subst}
 use native.Mathlib.Omega.{arith}
 use borrow.Author.Rules.{rules}
 use Rattle.slicefile.specs.declared.Answer.TheVariants.{Refused}
-use Rattle.quagmuffin.specs.Packed.{packAnswer, SmallAnswer}
+use Rattle.quagmuffin.specs.Packed.{pack_answer, SmallAnswer}
 use Rattle.quagmuffin.proofs.pack_answer.Statement.{statement}
 use Rattle.quagmuffin.proofs.pack_answer.Tie as tie
 
@@ -17,11 +17,11 @@ enum_told : tie.Need-enum-told
 enum_told c = search rules
 
 returns : tie.Need-returns
-returns c = c.pack-number.ensures ∙ sym (ap packAnswer c.before.before.answer.given.1)
+returns c = c.pack-number.ensures ∙ sym (ap pack_answer c.before.before.answer.given.1)
 
-returns-2 : tie.Need-returns-2
-returns-2 c = search rules
+returns_2 : tie.Need-returns-2
+returns_2 c = search rules
 
-pub pack-answer-spec : {M : Type 1} → statement M
-pack-answer-spec =
-    tie.close (tie.spec enum-known-answer pack-number-requires enum_told returns returns-2)
+pub pack_answer_spec : {M : Type 1} → statement M
+pack_answer_spec =
+    tie.close (tie.spec enum-known-answer pack-number-requires enum_told returns returns_2)

@@ -17,9 +17,9 @@ pack-verdict-requires c κs = subst FitsReply c.before.reply.given.1 c.before.be
 returns : tie.Need-returns
 returns c = search rules
 
-returns-2 : tie.Need-returns-2
-returns-2 c = search rules
+returns_2 : tie.Need-returns-2
+returns_2 c = search rules
 
-pub pack-reply-spec : {M : Type 1} → statement M
-pack-reply-spec =
-    tie.close (tie.spec enum_told enum-known-reply pack-verdict-requires returns returns-2)
+pub pack_reply_spec : {M : Type 1} → statement M
+pack_reply_spec =
+    tie.close (tie.spec enum_told enum-known-reply pack-verdict-requires returns returns_2)

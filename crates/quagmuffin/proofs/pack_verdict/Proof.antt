@@ -3,7 +3,7 @@ use mathlib.Core.Path.{◌∙◌, sym, ap, subst}
 use native.Mathlib.Omega.{arith}
 use borrow.Author.Rules.{rules}
 use Rattle.column.specs.declared.Verdict.TheVariants.{Refused, Accepted}
-use Rattle.quagmuffin.specs.Packed.{packVerdict, Fits}
+use Rattle.quagmuffin.specs.Packed.{pack_verdict, Fits}
 use Rattle.quagmuffin.proofs.pack_verdict.Statement.{statement}
 use Rattle.quagmuffin.proofs.pack_verdict.Tie as tie
 
@@ -29,13 +29,13 @@ pack-number-requires-2 : tie.Need-pack-number-requires-2
 pack-number-requires-2 c κs = (omega arith, omega (arith, (within c).0, (within c).1))
 
 returns : tie.Need-returns
-returns c = c.pack-number.ensures ∙ sym (ap packVerdict c.before.before.verdict.given.1)
+returns c = c.pack-number.ensures ∙ sym (ap pack_verdict c.before.before.verdict.given.1)
 
-returns-2 : tie.Need-returns-2
-returns-2 c = c.pack-number2.ensures ∙ sym (ap packVerdict c.before.before.verdict2.given.1)
+returns_2 : tie.Need-returns-2
+returns_2 c = c.pack-number2.ensures ∙ sym (ap pack_verdict c.before.before.verdict2.given.1)
 
-pub pack-verdict-spec : {M : Type 1} → statement M
-pack-verdict-spec =
+pub pack_verdict_spec : {M : Type 1} → statement M
+pack_verdict_spec =
     tie.close
     (tie.spec
     enum-known-verdict
@@ -45,4 +45,4 @@ pack-verdict-spec =
     add-pack-number
     pack-number-requires-2
     returns
-    returns-2)
+    returns_2)

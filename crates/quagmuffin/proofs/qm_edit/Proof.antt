@@ -38,8 +38,8 @@ use denote.Triple.Spec.{Meets, triple_of}
 use denote.Triple.Table.{entered, cited}
 use denote.Triple.Walked.{says, Stays, stay_none_slice, gave_slice, walk_of, Walks, ends_at, walked, Goes-none_slice, Goes-gave_slice, walk_Meets}
 use denote.Exit.{yes}
-use Rattle.column.specs.Clock.{state_of, envOf}
-use Rattle.editlist.specs.Listed.{listLength, editsIn, listedCount, Listed}
+use Rattle.column.specs.Clock.{state_of, env_of}
+use Rattle.editlist.specs.Listed.{list_length, edits_in, listed_count, Listed}
 use Rattle.editlist.specs.declared.Edit.{Edit}
 use Rattle.editlist.specs.contracts.Edit as T
 use Rattle.editlist.specs.contracts.list_edits as list-edits
@@ -47,7 +47,7 @@ use Rattle.editlist.proofs.list_edits.Symbol as list-edits-def
 use Rattle.editlist.proofs.list_edits.Symbol.{name as #editlist·list-edits}
 use Rattle.editlist.proofs.list_edits.Met as list-edits-thm
 use Rattle.edits.specs.Edits.{EditsMade}
-use Rattle.edits.proofs.Listed.{edits-listed}
+use Rattle.edits.proofs.Listed.{edits_listed}
 use Rattle.quagmuffin.specs.Packed.{Answered}
 use Rattle.quagmuffin.specs.contracts.edit_listed as edit-listed
 use Rattle.quagmuffin.proofs.edit_listed.Symbol as edit-listed-def
@@ -99,14 +99,14 @@ module _ {M : Type 1} {𝓤 : Ura M} (𝓛 : Logic 𝓤) (mem : Memory → SProp
   abbrev Tokens : Item 𝓤
   Tokens = ‵ (flft κ₀ q₀) ⊛ ‵ (flft κ₁ q₁) ⊛ ‵ (flft κ₂ q₂) ⊛ ‵ (flft κ₃ q₃) ⊛ ‵ (flft κ₄ q₄) ⊛ ‵ ftrue
 
-  abbrev to-list : (ListEdits 𝓛 mem run).Ghost
-  to-list = (((κ₅, tt), (q₅, tt), tt, (x₅, tt), (val x₅ ∷ [], tt)), tt)
+  abbrev to_list : (ListEdits 𝓛 mem run).Ghost
+  to_list = (((κ₅, tt), (q₅, tt), tt, (x₅, tt), (val x₅ ∷ [], tt)), tt)
 
-  goes-list : ent 𝓤 (⋆ 𝓛 (Token ∷ ‵ Changes ∷ [])) ((ListEdits 𝓛 mem run).pre to-list)
-  goes-list = qed 𝓛 (Token ∷ ‵ Changes ∷ []) ∵ nothing ! $ move ! (2 ∷ 0 ∷ []) $ fjoin ! $ move ! (1 ∷ 0 ∷ []) $ join ! $ frame ! $ done !
+  goes_list : ent 𝓤 (⋆ 𝓛 (Token ∷ ‵ Changes ∷ [])) ((ListEdits 𝓛 mem run).pre to_list)
+  goes_list = qed 𝓛 (Token ∷ ‵ Changes ∷ []) ∵ nothing ! $ move ! (2 ∷ 0 ∷ []) $ fjoin ! $ move ! (1 ∷ 0 ∷ []) $ join ! $ frame ! $ done !
 
-  said-list : (zs : List ℕ) → ent 𝓤 (ensured 𝓛 list-edits.ended (list-edits.clauses 𝓛 mem run) (κ₅, tt) (x₅, tt) tt zs) (fact 𝓤 (Listed x₅.now (listedCount (length x₅.now)) zs))
-  said-list zs = ex_e 𝓤 _ (λ ws. snd∗ 𝓤 (sem 𝓛 (lasts list-edits.ended (κ₅, tt) (x₅, tt) ws)) (fact 𝓤 (Listed x₅.now (listedCount (length x₅.now)) zs)))
+  said_list : (zs : List ℕ) → ent 𝓤 (ensured 𝓛 list-edits.ended (list-edits.clauses 𝓛 mem run) (κ₅, tt) (x₅, tt) tt zs) (fact 𝓤 (Listed x₅.now (listed_count (length x₅.now)) zs))
+  said_list zs = ex_e 𝓤 _ (λ ws. snd∗ 𝓤 (sem 𝓛 (lasts list-edits.ended (κ₅, tt) (x₅, tt) ws)) (fact 𝓤 (Listed x₅.now (listed_count (length x₅.now)) zs)))
 
   -- the words zs at the machine value w
   module _ (zs : List ℕ) (w : Val) where
@@ -115,21 +115,21 @@ module _ {M : Type 1} {𝓤 : Ura M} (𝓛 : Logic 𝓤) (mem : Memory → SProp
 
     -- what `edit_listed` promises, and what is promised here
     abbrev Did : List Edit → Lasts → ℕ → Type 0
-    Did es ls r = Answered (EditsMade x₀.now (envOf (state_of x₁.now x₂.now) x₃.now) (envOf (state_of ls.1.0 x₂.now) ls.1.1.1.0) es x₄.now ls.1.1.1.1.0) r
+    Did es ls r = Answered (EditsMade x₀.now (env_of (state_of x₁.now x₂.now) x₃.now) (env_of (state_of ls.1.0 x₂.now) ls.1.1.1.0) es x₄.now ls.1.1.1.1.0) r
 
     -- what is promised of the words is promised of the list
-    told : (ls : Lasts) (r : ℕ) → Listed x₅.now (listedCount (length x₅.now)) zs → Did (editsIn zs (length x₅.now)) ls r → Did x₅.now ls r
-    told ls r l p = record { answer = p.answer; promised = edits-listed _ _ _ x₅.now zs _ _ l p.promised; same = p.same }
+    told : (ls : Lasts) (r : ℕ) → Listed x₅.now (listed_count (length x₅.now)) zs → Did (edits_in zs (length x₅.now)) ls r → Did x₅.now ls r
+    told ls r l p = record { answer = p.answer; promised = edits_listed _ _ _ x₅.now zs _ _ l p.promised; same = p.same }
 
-    abbrev to-edit : (EditListed 𝓛 mem run).Ghost
-    to-edit = (((κ₀, (κ₁, (κ₂, (κ₃, (κ₄, tt))))), (q₀, (q₁, (q₂, (q₃, (q₄, tt))))), tt, (x₀, (x₁, (x₂, (x₃, (x₄, (zs, (length x₅.now, tt))))))), (val x₀ ∷ [], (val x₁ ∷ [], (val x₂ ∷ [], (val x₃ ∷ [], (val x₄ ∷ [], (w ∷ [], (vint w64 (length x₅.now) ∷ [], tt)))))))), tt)
+    abbrev to_edit : (EditListed 𝓛 mem run).Ghost
+    to_edit = (((κ₀, (κ₁, (κ₂, (κ₃, (κ₄, tt))))), (q₀, (q₁, (q₂, (q₃, (q₄, tt))))), tt, (x₀, (x₁, (x₂, (x₃, (x₄, (zs, (length x₅.now, tt))))))), (val x₀ ∷ [], (val x₁ ∷ [], (val x₂ ∷ [], (val x₃ ∷ [], (val x₄ ∷ [], (w ∷ [], (vint w64 (length x₅.now) ∷ [], tt)))))))), tt)
 
     abbrev Handed : Fml
-    Handed = owns (ShrSlice (named 0) κ₀ u8 ∷ MutSlice (named 1) κ₁ u64 ∷ ShrSlice (named 2) κ₂ u8 ∷ MutSlice (named 3) κ₃ u8 ∷ MutSlice (named 4) κ₄ u8 ∷ Array u64 listLength ∷ usize ∷ [])
+    Handed = owns (ShrSlice (named 0) κ₀ u8 ∷ MutSlice (named 1) κ₁ u64 ∷ ShrSlice (named 2) κ₂ u8 ∷ MutSlice (named 3) κ₃ u8 ∷ MutSlice (named 4) κ₄ u8 ∷ Array u64 list_length ∷ usize ∷ [])
         (x₀, (x₁, (x₂, (x₃, (x₄, (zs, (length x₅.now, tt))))))) (val x₀ ∷ [], (val x₁ ∷ [], (val x₂ ∷ [], (val x₃ ∷ [], (val x₄ ∷ [], (w ∷ [], (vint w64 (length x₅.now) ∷ [], tt)))))))
 
-    goes-edit : ent 𝓤 (⋆ 𝓛 (Tokens ∷ ‵ Handed ∷ [])) ((EditListed 𝓛 mem run).pre to-edit)
-    goes-edit = qed 𝓛 (Tokens ∷ ‵ Handed ∷ []) ∵ join ! $ frame ! $ done !
+    goes_edit : ent 𝓤 (⋆ 𝓛 (Tokens ∷ ‵ Handed ∷ [])) ((EditListed 𝓛 mem run).pre to_edit)
+    goes_edit = qed 𝓛 (Tokens ∷ ‵ Handed ∷ []) ∵ join ! $ frame ! $ done !
 
     exits : (r : ℕ) (v : Val) (ls : Lasts) → Did x₅.now ls r → length ls.1.0 ≡ length x₁.now → length ls.1.1.1.0 ≡ length x₃.now → length ls.1.1.1.1.0 ≡ length x₄.now
         → ent 𝓤 (⋆ 𝓛 (Tokens ∷ Token ∷ ‵ File ∷ ‵ Flops ∷ ‵ Changes ∷ ‵ (finally u64 x₁.name ls.1.0) ∷ ‵ (finally u8 x₃.name ls.1.1.1.0) ∷ ‵ (finally u8 x₄.name ls.1.1.1.1.0) ∷ ‵ (u64.own_val r (v ∷ [])) ∷ [])) (Post v)
@@ -161,13 +161,13 @@ module _ {M : Type 1} {𝓤 : Ura M} (𝓛 : Logic 𝓤) (mem : Memory → SProp
         keep ! (13 ∷ 14 ∷ 15 ∷ 16 ∷ 17 ∷ 18 ∷ 19 ∷ 20 ∷ 21 ∷ 22 ∷ 23 ∷ 24 ∷ 25 ∷ 26 ∷ 27 ∷ 28 ∷ 29 ∷ 30 ∷ 31 ∷ 32 ∷ 33 ∷ 34 ∷ 35 ∷ 36 ∷ 37 ∷ 38 ∷ 39 ∷ 40 ∷ 41 ∷ 42 ∷ 5 ∷ 4 ∷ 3 ∷ 2 ∷ 0 ∷ 1 ∷ 12 ∷ 11 ∷ 10 ∷ 9 ∷ 8 ∷ 6 ∷ []) $
         -- `list_edits`
         move ! (41 ∷ []) $ use1 𝓛 (‵ Changes ⊛ ‵ Changes) ((shr_slice_copy 𝓛 (named 5) κ₅ T.the_row).twice x₅ (val x₅ ∷ [])) $ split ! $
-        move ! (37 ∷ 0 ∷ []) $ use2 𝓛 (raw ((ListEdits 𝓛 mem run).pre to-list)) goes-list $
-        calls_at ! fm (ListEdits 𝓛 mem run) known-list to-list (and_then ! (load ! (from ! (stop !)) (look ! 18 refl)) (no_more !)) (λ w.
-        use1 𝓛 (later (some (λ (zs : List ℕ). (Token ⊛ ‵ ((Array u64 listLength).own_val zs (w ∷ []))) ⊛ raw (ensured 𝓛 list-edits.ended (list-edits.clauses 𝓛 mem run) (κ₅, tt) (x₅, tt) tt zs)))) (id⊢ 𝓤 _) $ await ! tt $ pick ! (λ zs.
-        split ! $ move ! (1 ∷ []) $ use1 𝓛 (raw (fact 𝓤 (Listed x₅.now (listedCount (length x₅.now)) zs))) (said-list zs) $ heard ! (Listed x₅.now (listedCount (length x₅.now)) zs) (λ e₁. split ! $ move ! (1 ∷ []) $
-        peeks ! (Array u64 listLength) (Is (Array u64 listLength)) (shows 𝓛 (Array u64 listLength)) zs (w ∷ []) (λ is₁.
+        move ! (37 ∷ 0 ∷ []) $ use2 𝓛 (raw ((ListEdits 𝓛 mem run).pre to_list)) goes_list $
+        calls_at ! fm (ListEdits 𝓛 mem run) known-list to_list (and_then ! (load ! (from ! (stop !)) (look ! 18 refl)) (no_more !)) (λ w.
+        use1 𝓛 (later (some (λ (zs : List ℕ). (Token ⊛ ‵ ((Array u64 list_length).own_val zs (w ∷ []))) ⊛ raw (ensured 𝓛 list-edits.ended (list-edits.clauses 𝓛 mem run) (κ₅, tt) (x₅, tt) tt zs)))) (id⊢ 𝓤 _) $ await ! tt $ pick ! (λ zs.
+        split ! $ move ! (1 ∷ []) $ use1 𝓛 (raw (fact 𝓤 (Listed x₅.now (listed_count (length x₅.now)) zs))) (said_list zs) $ heard ! (Listed x₅.now (listed_count (length x₅.now)) zs) (λ e₁. split ! $ move ! (1 ∷ []) $
+        peeks ! (Array u64 list_length) (Is (Array u64 list_length)) (shows 𝓛 (Array u64 list_length)) zs (w ∷ []) (λ is₁.
         -- [what the words own; the list's token; what it owns; the locals; the tokens; what the five own]
-        land ! (from ! (stop !)) (init ! 17 refl ((Array-Lawful 𝓛 u64 (uint_Lawful 𝓛 w64) listLength).typed zs _ is₁).0) $
+        land ! (from ! (stop !)) (init ! 17 refl ((Array-Lawful 𝓛 u64 (uint_Lawful 𝓛 w64) list_length).typed zs _ is₁).0) $
         assigns ! (addr ! (from ! (fld ! refl (hop ! (look_in ! 27 (sub ! 0 refl (whole !))) (stop !))))) (from ! (stop !)) (init ! 15 refl (tt, tt)) $
         assigns ! (agg ! (and_then ! (load ! (from ! (stop !)) (look ! 15 refl)) (and_then ! (load ! (from ! (fld ! refl (stop !))) (look_in ! 27 (sub ! 1 refl (whole !)))) (no_more !)))) (from ! (stop !)) (init ! 13 refl (tt, (tt, (record { fits = g₁.0 }, tt)))) $
         assigns ! (addr ! (from ! (fld ! refl (hop ! (look_in ! 23 (sub ! 0 refl (whole !))) (stop !))))) (from ! (stop !)) (init ! 11 refl (tt, tt)) $
@@ -181,14 +181,14 @@ module _ {M : Type 1} {𝓤 : Ura M} (𝓛 : Logic 𝓤) (mem : Memory → SProp
         nothing ! $ owned ! usize (Is usize) (uint_Makes 𝓛 w64) (length x₅.now) _ (refl, g₅.0) $ fjoin ! $ move ! (5 ∷ 0 ∷ []) $ fjoin ! $ move ! (44 ∷ 0 ∷ []) $ fjoin ! $ move ! (43 ∷ 0 ∷ []) $ fjoin ! $
         move ! (1 ∷ 0 ∷ []) $ fjoin ! $ move ! (41 ∷ 0 ∷ []) $ fjoin ! $ move ! (2 ∷ 0 ∷ []) $ fjoin ! $
         nothing ! $ move ! (40 ∷ 0 ∷ []) $ join ! $ move ! (39 ∷ 0 ∷ []) $ join ! $ move ! (38 ∷ 0 ∷ []) $ join ! $ move ! (37 ∷ 0 ∷ []) $ join ! $ move ! (36 ∷ 0 ∷ []) $ join ! $
-        use2 𝓛 (raw ((EditListed 𝓛 mem run).pre (to-edit zs w))) (goes-edit zs w) $
+        use2 𝓛 (raw ((EditListed 𝓛 mem run).pre (to_edit zs w))) (goes_edit zs w) $
         -- [what it asks; what flops and file own; the list's token; what the list owns; the locals]
-        calls_at ! fm (EditListed 𝓛 mem run) known-edit (to-edit zs w)
+        calls_at ! fm (EditListed 𝓛 mem run) known-edit (to_edit zs w)
         (and_then ! (load ! (from ! (stop !)) (look ! 31 refl)) (and_then ! (load ! (from ! (stop !)) (look ! 15 refl)) (and_then ! (load ! (from ! (stop !)) (look ! 27 refl)) (and_then ! (load ! (from ! (stop !)) (look ! 11 refl))
         (and_then ! (load ! (from ! (stop !)) (look ! 7 refl)) (and_then ! (load ! (from ! (stop !)) (look ! 19 refl)) (and_then ! (load ! (from ! (stop !)) (look ! 5 refl)) (no_more !)))))))) (λ v.
         use1 𝓛 (later (some (λ (r : ℕ). (Tokens ⊛ ‵ (u64.own_val r (v ∷ []))) ⊛ raw (ensured 𝓛 edit-listed.ended (edit-listed.clauses 𝓛 mem run) (κ₀, (κ₁, (κ₂, (κ₃, (κ₄, tt))))) (x₀, (x₁, (x₂, (x₃, (x₄, (zs, (length x₅.now, tt))))))) tt r)))) (id⊢ 𝓤 _) $ await ! tt $ pick ! (λ r.
-        split ! $ move ! (1 ∷ []) $ use1 𝓛 (some (λ (ls : Lasts zs w). ‵ (lasts edit-listed.ended (κ₀, (κ₁, (κ₂, (κ₃, (κ₄, tt))))) (x₀, (x₁, (x₂, (x₃, (x₄, (zs, (length x₅.now, tt))))))) ls) ⊛ raw (fact 𝓤 (Did zs w (editsIn zs (length x₅.now)) ls r)))) (id⊢ 𝓤 _) $ pick ! (λ ls.
-        split ! $ move ! (1 ∷ []) $ heard ! (Did zs w (editsIn zs (length x₅.now)) ls r) (λ e₂.
+        split ! $ move ! (1 ∷ []) $ use1 𝓛 (some (λ (ls : Lasts zs w). ‵ (lasts edit-listed.ended (κ₀, (κ₁, (κ₂, (κ₃, (κ₄, tt))))) (x₀, (x₁, (x₂, (x₃, (x₄, (zs, (length x₅.now, tt))))))) ls) ⊛ raw (fact 𝓤 (Did zs w (edits_in zs (length x₅.now)) ls r)))) (id⊢ 𝓤 _) $ pick ! (λ ls.
+        split ! $ move ! (1 ∷ []) $ heard ! (Did zs w (edits_in zs (length x₅.now)) ls r) (λ e₂.
         -- its last lists, one after another
         fsplit ! $ move ! (1 ∷ []) $ fsplit ! $ fsplit ! $ move ! (1 ∷ []) $ feq_l ! (λ k₁. move ! (1 ∷ []) $ fsplit ! $ move ! (1 ∷ []) $ fsplit ! $ fsplit ! $ move ! (1 ∷ []) $ feq_l ! (λ k₃.
         move ! (1 ∷ []) $ fsplit ! $ fsplit ! $ move ! (1 ∷ []) $ feq_l ! (λ k₄.
@@ -231,9 +231,9 @@ meets {𝓤 = 𝓤} 𝓛 mem run 𝓣 known-list known-edit =
     ) (f.clauses 𝓛 mem run)
     (WpFn 𝓤 𝓛.H 𝓣.C 𝓣.Λ code.function) (WpFn-mono 𝓤 𝓛.H 𝓛.laws 𝓣 code.function) (walks 𝓛 mem run 𝓣.C 𝓣.Λ (fm_of 𝓤 𝓛.H 𝓛.laws 𝓣) known-list known-edit)
 
-pub qm-edit-spec : {M : Type 1} → stated.statement M
+pub qm_edit_spec : {M : Type 1} → stated.statement M
 unfolding code.routine tables_of
-qm-edit-spec 𝓤 𝓛 𝓜 𝓡 =
+qm_edit_spec 𝓤 𝓛 𝓜 𝓡 =
     entered 𝓤 𝓛.H (triple_of 𝓛 f.signature (f.spec 𝓛 𝓜.mem 𝓡.run))
     (tables 𝓤 𝓛.H 𝓜 𝓡 code.env).C (tables 𝓤 𝓛.H 𝓜 𝓡 code.env).Λ #quagmuffin·qm-edit code.function (code.unfolded 𝓤 𝓛.H 𝓜 𝓡)
     (meets 𝓛 𝓜.mem 𝓡.run (tables_of 𝓤 𝓛.H 𝓜 (tables 𝓤 𝓛.H 𝓜 𝓡 code.env))

@@ -3,7 +3,7 @@ use mathlib.Core.Path.{◌∙◌, ap}
 use mathlib.Core.List.{[], ◌∷◌}
 use Prim.Native.Nat.{ℕ}
 use borrow.Author.Rules.{rules}
-use Rattle.quagmuffin.proofs.Words.{three-stored}
+use Rattle.quagmuffin.proofs.Words.{three_stored}
 use Rattle.quagmuffin.proofs.store_reader.Statement.{statement}
 use Rattle.quagmuffin.proofs.store_reader.Tie as tie
 
@@ -25,10 +25,10 @@ same_length c = search rules
 returns : tie.Need-returns
 returns c =
     let k = c.before.before in
-    three-stored k.args.state.now _ _ _ k.requires.0 ∙ ap (λ (w : ℕ). k.args.reader.len ∷ k.args.reader.passed ∷ w ∷ []) c.pack-reply.ensures
+    three_stored k.args.state.now _ _ _ k.requires.0 ∙ ap (λ (w : ℕ). k.args.reader.len ∷ k.args.reader.passed ∷ w ∷ []) c.pack-reply.ensures
 
-pub store-reader-spec : {M : Type 1} → statement M
-store-reader-spec =
+pub store_reader_spec : {M : Type 1} → statement M
+store_reader_spec =
     tie.close
     (tie.spec
     slice-write-state

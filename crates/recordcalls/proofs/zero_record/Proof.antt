@@ -1,14 +1,14 @@
 -- `recordcalls::zero_record` meets its contract: the fields of zero bytes are zeros, by computation. Assumes nothing.
 use mathlib.Core.Path.{refl}
 use Rattle.slicefile.specs.Lists.{tabulate}
-use Rattle.slicerecord.specs.Record.{recordOf}
-use Rattle.recordcalls.specs.Calls.{zeroRecord}
+use Rattle.slicerecord.specs.Record.{record_of}
+use Rattle.recordcalls.specs.Calls.{zero_record}
 use Rattle.recordcalls.proofs.zero_record.Statement.{statement}
 use Rattle.recordcalls.proofs.zero_record.Tie as tie
 
 returns : tie.Need-returns
-unfolding zeroRecord recordOf tabulate
+unfolding zero_record record_of tabulate
 returns c = refl
 
-pub zero-record-spec : {M : Type 1} → statement M
-zero-record-spec = tie.close (tie.spec returns)
+pub zero_record_spec : {M : Type 1} → statement M
+zero_record_spec = tie.close (tie.spec returns)

@@ -25,5 +25,5 @@ returns c =
     ∙ ap (λ (r : Reading). written r.slice b.args.n b.args.m b.args.part.now) k.read-record.ensures
     ∙ (write_read b.args.bytes.now b.args.n b.args.m b.args.part.now (λ i. (k.before.before.shared-slice-known.given i).fits) b.requires.0 b.requires.1).1
 
-pub put-slice-spec : {M : Type 1} → statement M
-put-slice-spec = tie.close (tie.spec read-record-requires write-record-requires same_length returns)
+pub put_slice_spec : {M : Type 1} → statement M
+put_slice_spec = tie.close (tie.spec read-record-requires write-record-requires same_length returns)

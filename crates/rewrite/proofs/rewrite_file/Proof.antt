@@ -2,7 +2,7 @@
 use mathlib.Core.Path.{◌≡◌, ◌∙◌, refl, sym}
 use borrow.Author.Rules.{rules}
 use borrow.Author.Tests.{eq-eqb, ne_eqb}
-use Rattle.column.specs.Check.{checkFile}
+use Rattle.column.specs.Check.{check_file}
 use Rattle.column.specs.declared.Checked.TheVariants.{Sound}
 use Rattle.rewrite.specs.Rewrite.{rewritten}
 use Rattle.rewrite.proofs.rewrite_file.Statement.{statement}
@@ -17,7 +17,7 @@ enum-known-number c = search rules
 enum-known-n : tie.Need-enum-known-n
 enum-known-n c = search rules
 
-sound : (c : tie.After-n) → checkFile c.before.before.before.before.before.args.file.now ≡ Sound c.n.given.0.0 c.n.given.0.1.0
+sound : (c : tie.After-n) → check_file c.before.before.before.before.before.args.file.now ≡ Sound c.n.given.0.0 c.n.given.0.1.0
 sound c = sym c.before.before.check-file.ensures ∙ c.n.given.1
 
 returns : tie.Need-returns
@@ -27,21 +27,21 @@ returns c = (simp (sound c.before.before, ne_eqb _ _ c.if1.true), refl)
 put-records-requires : tie.Need-put-records-requires
 put-records-requires c κs = (sound c.before.before.before, c.before.if1.false)
 
-returns-2 : tie.Need-returns-2
+returns_2 : tie.Need-returns-2
 unfolding rewritten
-returns-2 c = (simp (← c.before.before.before.check-file.ensures, c.before.number.given.1), refl)
+returns_2 c = (simp (← c.before.before.before.check-file.ensures, c.before.number.given.1), refl)
 
 same_length : tie.Need-same-length
 same_length c = search rules
 
-returns-3 : tie.Need-returns-3
+returns_3 : tie.Need-returns-3
 unfolding rewritten
-returns-3 c =
+returns_3 c =
     let p = c.before.before in
     (simp (sound p.before.before.before.before, eq-eqb _ _ p.before.before.if1.false), p.put-records.ensures)
 
-pub rewrite-file-spec : {M : Type 1} → statement M
-rewrite-file-spec =
+pub rewrite_file_spec : {M : Type 1} → statement M
+rewrite_file_spec =
     tie.close
     (tie.spec
     check-file-requires
@@ -49,6 +49,6 @@ rewrite-file-spec =
     enum-known-n
     returns
     put-records-requires
-    returns-2
+    returns_2
     same_length
-    returns-3)
+    returns_3)

@@ -3,20 +3,20 @@ use mathlib.Core.Path.{◌≡◌}
 use Prim.Native.Nat.{◌≤◌, ◌-◌}
 use native.Mathlib.Omega.{arith}
 use borrow.Author.Rules.{rules}
-use Rattle.slicefile.specs.Lists.{anyBelow}
-use Rattle.rules.specs.Rules.{letterChoice, badChoice}
+use Rattle.slicefile.specs.Lists.{any_below}
+use Rattle.rules.specs.Rules.{letter_choice, bad_choice}
 use Rattle.slicefile.proofs.Tests.{any_next}
 use Rattle.rules.proofs.bad_choice.Statement.{statement}
 use Rattle.rules.proofs.bad_choice.Tie as tie
 
 abbrev invariant-loop : tie.invariant-loop
-invariant-loop body letters₀ l₀ letters l = (l ≤ 4) × (letters ≡ anyBelow l (letterChoice body))
+invariant-loop body letters₀ l₀ letters l = (l ≤ 4) × (letters ≡ any_below l (letter_choice body))
 
 abbrev decreases-loop : tie.decreases-loop
 decreases-loop body letters₀ l₀ letters l = 4 - l
 
 loop-holds : tie.Need-loop-init invariant-loop decreases-loop
-unfolding anyBelow
+unfolding any_below
 loop-holds c = search rules
 
 letter-choice-requires : tie.Need-letter-choice-requires invariant-loop decreases-loop
@@ -41,14 +41,14 @@ shared-slice-read-result-3 : tie.Need-shared-slice-read-result-3 invariant-loop 
 shared-slice-read-result-3 c = search rules
 
 returns : tie.Need-returns invariant-loop decreases-loop
-unfolding badChoice
+unfolding bad_choice
 returns c =
     let at = c.before.before.before.before.loop in
     let e : at.l ≡ 4 = omega arith in
     rw (at.invariant.1, e)
 
-pub bad-choice-spec : {M : Type 1} → statement M
-bad-choice-spec =
+pub bad_choice_spec : {M : Type 1} → statement M
+bad_choice_spec =
     tie.close
     (tie.spec
     invariant-loop

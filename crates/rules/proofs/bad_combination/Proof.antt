@@ -3,21 +3,21 @@ use mathlib.Core.Path.{◌≡◌, refl}
 use Prim.Native.Nat.{◌≤◌, ◌-◌}
 use native.Mathlib.Omega.{arith}
 use borrow.Author.Rules.{rules}
-use Rattle.slicefile.specs.Lists.{anyBelow}
-use Rattle.rules.specs.Rules.{modeIs, letterCombination, badCombination}
+use Rattle.slicefile.specs.Lists.{any_below}
+use Rattle.rules.specs.Rules.{mode_is, letter_combination, bad_combination}
 use Rattle.slicefile.proofs.Tests.{any_next}
 use Rattle.rules.proofs.bad_combination.Statement.{statement}
 use Rattle.rules.proofs.bad_combination.Tie as tie
 
 abbrev invariant-loop : tie.invariant-loop
 invariant-loop number body letters₀ memory₀ shift₀ l₀ letters memory shift l =
-    (l ≤ 4) × (letters ≡ anyBelow l (letterCombination body)) × (memory ≡ anyBelow l (modeIs body 1)) × (shift ≡ anyBelow l (modeIs body 2))
+    (l ≤ 4) × (letters ≡ any_below l (letter_combination body)) × (memory ≡ any_below l (mode_is body 1)) × (shift ≡ any_below l (mode_is body 2))
 
 abbrev decreases-loop : tie.decreases-loop
 decreases-loop number body letters₀ memory₀ shift₀ l₀ letters memory shift l = 4 - l
 
 loop-holds : tie.Need-loop-init invariant-loop decreases-loop
-unfolding anyBelow
+unfolding any_below
 loop-holds c = (search rules, refl, refl, refl)
 
 letter-combination-requires : tie.Need-letter-combination-requires invariant-loop decreases-loop
@@ -50,14 +50,14 @@ shared-slice-read-result : tie.Need-shared-slice-read-result invariant-loop decr
 shared-slice-read-result c = search rules
 
 returns : tie.Need-returns invariant-loop decreases-loop
-unfolding badCombination
+unfolding bad_combination
 returns c =
     let at = c.before.before.loop in
     let e : at.l ≡ 4 = omega arith in
     rw (at.invariant.1, at.invariant.2, at.invariant.3, e)
 
-pub bad-combination-spec : {M : Type 1} → statement M
-bad-combination-spec =
+pub bad_combination_spec : {M : Type 1} → statement M
+bad_combination_spec =
     tie.close
     (tie.spec
     invariant-loop

@@ -1,6 +1,6 @@
 -- `rules::letter_choice` meets its contract: the code is the definition. Assumes nothing.
 use mathlib.Core.Path.{refl}
-use Rattle.rules.specs.Rules.{letterChoice}
+use Rattle.rules.specs.Rules.{letter_choice}
 use borrow.Author.Rules.{rules}
 use Rattle.rules.proofs.letter_choice.Statement.{statement}
 use Rattle.rules.proofs.letter_choice.Tie as tie
@@ -42,11 +42,11 @@ shared-slice-read-result-6 : tie.Need-shared-slice-read-result-6
 shared-slice-read-result-6 c = search rules
 
 returns : tie.Need-returns
-unfolding letterChoice
+unfolding letter_choice
 returns c = refl
 
-pub letter-choice-spec : {M : Type 1} → statement M
-letter-choice-spec =
+pub letter_choice_spec : {M : Type 1} → statement M
+letter_choice_spec =
     tie.close
     (tie.spec
     add-result

@@ -1,5 +1,5 @@
 -- `rules::letter_combination` meets its contract: the code is the definition, with the word that `contents_word` gives. Assumes nothing.
-use Rattle.rules.specs.Rules.{letterCombination}
+use Rattle.rules.specs.Rules.{letter_combination}
 use borrow.Author.Rules.{rules}
 use Rattle.rules.proofs.letter_combination.Statement.{statement}
 use Rattle.rules.proofs.letter_combination.Tie as tie
@@ -35,11 +35,11 @@ shared-slice-read-result-3 : tie.Need-shared-slice-read-result-3
 shared-slice-read-result-3 c = search rules
 
 returns : tie.Need-returns
-unfolding letterCombination
+unfolding letter_combination
 returns c = rw c.before.before.before.contents-word.ensures
 
-pub letter-combination-spec : {M : Type 1} → statement M
-letter-combination-spec =
+pub letter_combination_spec : {M : Type 1} → statement M
+letter_combination_spec =
     tie.close
     (tie.spec
     add-mode

@@ -1,7 +1,7 @@
 -- `series7::by_bypass` meets its contract. Assumes nothing.
-use Rattle.netlist.specs.Table.{code_of, gateNumbers}
+use Rattle.netlist.specs.Table.{code_of, gate_numbers}
 use native.Mathlib.Omega.{arith}
-use Rattle.slicefile.specs.Format.{bypassPin}
+use Rattle.slicefile.specs.Format.{bypass_pin}
 use Rattle.sources.proofs.PinLaws.{pin_at}
 use borrow.Author.Rules.{rules}
 use Rattle.series7.proofs.by_bypass.Statement.{statement}
@@ -29,15 +29,15 @@ row-of-requires : tie.Need-row-of-requires
 row-of-requires c κs = search rules
 
 returns : tie.Need-returns
-unfolding code_of gateNumbers
+unfolding code_of gate_numbers
 returns c =
     let o = c.before.before in
     let s = o.before.before.before in
     let a = s.args in
-    rw (← pin_at a.n a.m a.body.now s.requires.0.3 (bypassPin a.l) (omega arith), ← o.own-number.ensures, ← c.before.own-number2.ensures) c.row_of.ensures
+    rw (← pin_at a.n a.m a.body.now s.requires.0.3 (bypass_pin a.l) (omega arith), ← o.own-number.ensures, ← c.before.own-number2.ensures) c.row_of.ensures
 
-pub by-bypass-spec : {M : Type 1} → statement M
-by-bypass-spec =
+pub by_bypass_spec : {M : Type 1} → statement M
+by_bypass_spec =
     tie.close
     (tie.spec
     add-select

@@ -2,9 +2,9 @@
 use native.Mathlib.Omega.{arith}
 use borrow.Author.Tests.{eq-eqb, ne_eqb}
 use Rattle.netlist.specs.Table.{code_of}
-use Rattle.slicefile.specs.Format.{bypassPin}
+use Rattle.slicefile.specs.Format.{bypass_pin}
 use Rattle.sources.proofs.PinLaws.{pin_at}
-use Rattle.series7.specs.Signals.{carrySource}
+use Rattle.series7.specs.Signals.{carry_source}
 use borrow.Author.Rules.{rules}
 use Rattle.series7.proofs.carry_data.Statement.{statement}
 use Rattle.series7.proofs.carry_data.Tie as tie
@@ -22,7 +22,7 @@ own-number-requires : tie.Need-own-number-requires
 own-number-requires c κs = search rules
 
 returns : tie.Need-returns
-unfolding code_of carrySource
+unfolding code_of carry_source
 returns c = rw (eq-eqb _ 0 c.before.if1.true) c.own-number.ensures
 
 add-result : tie.Need-overflow-add-result
@@ -34,15 +34,15 @@ mul-result c = search rules
 element-copy-out-result : tie.Need-element-copy-out-result
 element-copy-out-result c = search rules
 
-returns-2 : tie.Need-returns-2
-unfolding carrySource
-returns-2 c =
+returns_2 : tie.Need-returns-2
+unfolding carry_source
+returns_2 c =
     let s = c.before.before.before.before in
     let a = s.args in
-    rw (ne_eqb _ 0 c.before.if1.false) (pin_at a.n a.m a.body.now s.requires.0.3 (bypassPin a.l) (omega arith))
+    rw (ne_eqb _ 0 c.before.if1.false) (pin_at a.n a.m a.body.now s.requires.0.3 (bypass_pin a.l) (omega arith))
 
-pub carry-data-spec : {M : Type 1} → statement M
-carry-data-spec =
+pub carry_data_spec : {M : Type 1} → statement M
+carry_data_spec =
     tie.close
     (tie.spec
     add-if1
@@ -53,4 +53,4 @@ carry-data-spec =
     add-result
     mul-result
     element-copy-out-result
-    returns-2)
+    returns_2)

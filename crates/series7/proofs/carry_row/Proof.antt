@@ -1,6 +1,6 @@
 -- `series7::carry_row` meets its contract. Assumes nothing.
-use Rattle.netlist.specs.Table.{code_of, gateNumbers}
-use Rattle.series7.specs.Signals.{familyGate}
+use Rattle.netlist.specs.Table.{code_of, gate_numbers}
+use Rattle.series7.specs.Signals.{family_gate}
 use borrow.Author.Rules.{rules}
 use Rattle.series7.proofs.carry_row.Statement.{statement}
 use Rattle.series7.proofs.carry_row.Tie as tie
@@ -21,12 +21,12 @@ row-of-requires : tie.Need-row-of-requires
 row-of-requires c κs = search rules
 
 returns : tie.Need-returns
-unfolding code_of gateNumbers familyGate
+unfolding code_of gate_numbers family_gate
 returns c =
     rw (← c.before.before.before.own-number.ensures, ← c.before.before.carry-in.ensures, ← c.before.carry-data.ensures) c.row_of.ensures
 
-pub carry-row-spec : {M : Type 1} → statement M
-carry-row-spec =
+pub carry_row_spec : {M : Type 1} → statement M
+carry_row_spec =
     tie.close
     (tie.spec
     own-number-requires

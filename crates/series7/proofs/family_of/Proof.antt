@@ -7,11 +7,11 @@ use Rattle.series7.proofs.family_of.Tie as tie
 returns : tie.Need-returns
 returns c = search (rules, lt-ltb, le-ltb)
 
-returns-2 : tie.Need-returns-2
-returns-2 c = search (rules, lt-ltb, le-ltb)
+returns_2 : tie.Need-returns-2
+returns_2 c = search (rules, lt-ltb, le-ltb)
 
-returns-3 : tie.Need-returns-3
-returns-3 c = search (rules, lt-ltb, le-ltb)
+returns_3 : tie.Need-returns-3
+returns_3 c = search (rules, lt-ltb, le-ltb)
 
 returns-4 : tie.Need-returns-4
 returns-4 c = search (rules, lt-ltb, le-ltb)
@@ -28,7 +28,7 @@ returns-7 c = search (rules, lt-ltb, le-ltb)
 returns-8 : tie.Need-returns-8
 returns-8 c = search (rules, lt-ltb, le-ltb)
 
-pub family-of-spec : {M : Type 1} → statement M
-family-of-spec =
+pub family_of_spec : {M : Type 1} → statement M
+family_of_spec =
     tie.close
-    (tie.spec returns returns-2 returns-3 returns-4 returns-5 returns-6 returns-7 returns-8)
+    (tie.spec returns returns_2 returns_3 returns-4 returns-5 returns-6 returns-7 returns-8)

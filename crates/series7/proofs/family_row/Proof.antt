@@ -1,6 +1,6 @@
 -- `series7::family_row` meets its contract. Assumes nothing.
-use Rattle.netlist.specs.Table.{gateNumbers}
-use Rattle.series7.specs.Signals.{familyGate}
+use Rattle.netlist.specs.Table.{gate_numbers}
+use Rattle.series7.specs.Signals.{family_gate}
 use borrow.Author.Rules.{rules}
 use Rattle.series7.proofs.family_row.Statement.{statement}
 use Rattle.series7.proofs.family_row.Tie as tie
@@ -87,39 +87,39 @@ row-of-requires-2 : tie.Need-row-of-requires-2
 row-of-requires-2 c κs = search rules
 
 returns : tie.Need-returns
-unfolding familyGate
+unfolding family_gate
 returns c = rw c.before.enum_told.given.1 c.o6-row.ensures
 
-returns-2 : tie.Need-returns-2
-unfolding familyGate
-returns-2 c = rw c.before.enum-told2.given.1 c.o5-row.ensures
+returns_2 : tie.Need-returns-2
+unfolding family_gate
+returns_2 c = rw c.before.enum-told2.given.1 c.o5-row.ensures
 
-returns-3 : tie.Need-returns-3
-unfolding familyGate
-returns-3 c = rw c.before.enum-told3.given.1 c.carry-row.ensures
+returns_3 : tie.Need-returns-3
+unfolding family_gate
+returns_3 c = rw c.before.enum-told3.given.1 c.carry-row.ensures
 
 returns-4 : tie.Need-returns-4
-unfolding familyGate
+unfolding family_gate
 returns-4 c = rw c.before.enum-told4.given.1 c.sum_row.ensures
 
 returns-5 : tie.Need-returns-5
-unfolding familyGate
+unfolding family_gate
 returns-5 c = rw c.before.enum-told5.given.1 c.Wide-Row.ensures
 
 returns-6 : tie.Need-returns-6
-unfolding familyGate
+unfolding family_gate
 returns-6 c = rw c.before.enum-told6.given.1 c.mux-row.ensures
 
 returns-7 : tie.Need-returns-7
-unfolding gateNumbers familyGate
+unfolding gate_numbers family_gate
 returns-7 c = rw c.before.enum-told7.given.1 c.row_of.ensures
 
 returns-8 : tie.Need-returns-8
-unfolding gateNumbers familyGate
+unfolding gate_numbers family_gate
 returns-8 c = rw c.before.enum-told8.given.1 c.row-of2.ensures
 
-pub family-row-spec : {M : Type 1} → statement M
-family-row-spec =
+pub family_row_spec : {M : Type 1} → statement M
+family_row_spec =
     tie.close
     (tie.spec
     enum_told
@@ -150,8 +150,8 @@ family-row-spec =
     add-row-of-7
     row-of-requires-2
     returns
-    returns-2
-    returns-3
+    returns_2
+    returns_3
     returns-4
     returns-5
     returns-6

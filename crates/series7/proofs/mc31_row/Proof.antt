@@ -1,6 +1,6 @@
 -- `series7::mc31_row` meets its contract. Assumes nothing.
 use borrow.Author.Tests.{eq-eqb, ne_eqb}
-use Rattle.netlist.specs.Table.{code_of, gateNumbers}
+use Rattle.netlist.specs.Table.{code_of, gate_numbers}
 use borrow.Author.Rules.{rules}
 use Rattle.series7.proofs.mc31_row.Statement.{statement}
 use Rattle.series7.proofs.mc31_row.Tie as tie
@@ -15,7 +15,7 @@ cast-t8 : tie.Need-overflow-cast-t8
 cast-t8 c = search rules
 
 returns : tie.Need-returns
-unfolding code_of gateNumbers
+unfolding code_of gate_numbers
 returns c = rw (eq-eqb _ 2 c.if1.true)
 
 mul-row-of : tie.Need-overflow-mul-row-of
@@ -30,12 +30,12 @@ add-row-of c = search rules
 row-of-requires : tie.Need-row-of-requires
 row-of-requires c κs = search rules
 
-returns-2 : tie.Need-returns-2
-unfolding gateNumbers
-returns-2 c = rw (ne_eqb _ 2 c.before.if1.false) c.row_of.ensures
+returns_2 : tie.Need-returns-2
+unfolding gate_numbers
+returns_2 c = rw (ne_eqb _ 2 c.before.if1.false) c.row_of.ensures
 
-pub mc31-row-spec : {M : Type 1} → statement M
-mc31-row-spec =
+pub mc31_row_spec : {M : Type 1} → statement M
+mc31_row_spec =
     tie.close
     (tie.spec
     shared-slice-read-if1
@@ -46,4 +46,4 @@ mc31-row-spec =
     mul-row-of-2
     add-row-of
     row-of-requires
-    returns-2)
+    returns_2)

@@ -1,5 +1,5 @@
 -- `series7::mux_row` meets its contract. Assumes nothing.
-use Rattle.netlist.specs.Table.{code_of, gateNumbers}
+use Rattle.netlist.specs.Table.{code_of, gate_numbers}
 use borrow.Author.Rules.{rules}
 use Rattle.series7.proofs.mux_row.Statement.{statement}
 use Rattle.series7.proofs.mux_row.Tie as tie
@@ -26,11 +26,11 @@ row-of-requires : tie.Need-row-of-requires
 row-of-requires c κs = search rules
 
 returns : tie.Need-returns
-unfolding code_of gateNumbers
+unfolding code_of gate_numbers
 returns c = rw (← c.before.before.mux-signal.ensures.0, ← c.before.own-number.ensures) c.row_of.ensures
 
-pub mux-row-spec : {M : Type 1} → statement M
-mux-row-spec =
+pub mux_row_spec : {M : Type 1} → statement M
+mux_row_spec =
     tie.close
     (tie.spec
     add-mux-signal

@@ -13,14 +13,14 @@ returns c = search (rules, eq-eqb, ne_eqb)
 add-result-2 : tie.Need-overflow-add-result-2
 add-result-2 c = search rules
 
-returns-2 : tie.Need-returns-2
-returns-2 c = search (rules, eq-eqb, ne_eqb)
+returns_2 : tie.Need-returns-2
+returns_2 c = search (rules, eq-eqb, ne_eqb)
 
 add-result-3 : tie.Need-overflow-add-result-3
 add-result-3 c = search rules
 
-returns-3 : tie.Need-returns-3
-returns-3 c = search (rules, eq-eqb, ne_eqb)
+returns_3 : tie.Need-returns-3
+returns_3 c = search (rules, eq-eqb, ne_eqb)
 
 wide-signal-requires : tie.Need-wide-signal-requires
 wide-signal-requires c κs = search rules
@@ -34,16 +34,16 @@ add-result-4 c = search rules
 returns-5 : tie.Need-returns-5
 returns-5 c = search (rules, eq-eqb, ne_eqb)
 
-pub mux-signal-spec : {M : Type 1} → statement M
-mux-signal-spec =
+pub mux_signal_spec : {M : Type 1} → statement M
+mux_signal_spec =
     tie.close
     (tie.spec
     add-result
     returns
     add-result-2
-    returns-2
+    returns_2
     add-result-3
-    returns-3
+    returns_3
     wide-signal-requires
     returns-4
     add-result-4

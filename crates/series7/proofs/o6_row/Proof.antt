@@ -4,17 +4,17 @@ use Prim.Native.Nat.{ℕ, ◌+◌, ◌*◌, ◌<◌}
 use native.Mathlib.Omega.{arith}
 use borrow.Author.Tests.{eq-eqb, ne_eqb}
 use lib.ListN.{get_or}
-use Rattle.netlist.specs.Table.{code_of, gateNumbers}
-use Rattle.slicefile.specs.Format.{pinCount, lutPin}
-use Rattle.sources.specs.Sources.{pinSource}
+use Rattle.netlist.specs.Table.{code_of, gate_numbers}
+use Rattle.slicefile.specs.Format.{pin_count, lut_pin}
+use Rattle.sources.specs.Sources.{pin_source}
 use Rattle.sources.proofs.PinLaws.{pin_at}
-use Rattle.series7.specs.Signals.{pinsOf, familyGate}
+use Rattle.series7.specs.Signals.{pins_of, family_gate}
 use borrow.Author.Rules.{rules}
 use Rattle.series7.proofs.o6_row.Statement.{statement}
 use Rattle.series7.proofs.o6_row.Tie as tie
 
 -- the number of pin p
-pin : (c : tie.Start) (p : ℕ) → p < pinCount → get_or c.args.pins.now p 0 ≡ code_of c.args.n (pinSource c.args.n c.args.m c.args.body.now p)
+pin : (c : tie.Start) (p : ℕ) → p < pin_count → get_or c.args.pins.now p 0 ≡ code_of c.args.n (pin_source c.args.n c.args.m c.args.body.now p)
 pin c = pin_at c.args.n c.args.m c.args.body.now c.requires.0.3
 
 mul-table : tie.Need-overflow-mul-table
@@ -87,22 +87,22 @@ shared-slice-read-if1 : tie.Need-shared-slice-read-if1
 shared-slice-read-if1 c = search rules
 
 returns : tie.Need-returns
-unfolding code_of gateNumbers pinsOf familyGate
+unfolding code_of gate_numbers pins_of family_gate
 returns c =
     let s = c.before.before.before.before.before.before.before.before in
     let l = s.args.l in
     rw (eq-eqb _ 2 c.if1.true, pin s (6 * l + 1) (omega arith), pin s (6 * l + 2) (omega arith), pin s (6 * l + 3) (omega arith), pin s (6 * l + 4) (omega arith), pin s (6 * l + 5) (omega arith))
 
-returns-2 : tie.Need-returns-2
-unfolding code_of gateNumbers pinsOf familyGate
-returns-2 c =
+returns_2 : tie.Need-returns-2
+unfolding code_of gate_numbers pins_of family_gate
+returns_2 c =
     let s = c.before.before.before.before.before.before.before.before in
     let l = s.args.l in
-    let e : lutPin l 0 ≡ 6 * l = omega arith in
+    let e : lut_pin l 0 ≡ 6 * l = omega arith in
     rw (ne_eqb _ 2 c.if1.false, e, pin s (6 * l) (omega arith), pin s (6 * l + 1) (omega arith), pin s (6 * l + 2) (omega arith), pin s (6 * l + 3) (omega arith), pin s (6 * l + 4) (omega arith), pin s (6 * l + 5) (omega arith))
 
-pub o6-row-spec : {M : Type 1} → statement M
-o6-row-spec =
+pub o6_row_spec : {M : Type 1} → statement M
+o6_row_spec =
     tie.close
     (tie.spec
     mul-table
@@ -129,4 +129,4 @@ o6-row-spec =
     add-if1
     shared-slice-read-if1
     returns
-    returns-2)
+    returns_2)

@@ -1,6 +1,6 @@
 -- `series7::sum_row` meets its contract. Assumes nothing.
-use Rattle.netlist.specs.Table.{code_of, gateNumbers}
-use Rattle.series7.specs.Signals.{familyGate}
+use Rattle.netlist.specs.Table.{code_of, gate_numbers}
+use Rattle.series7.specs.Signals.{family_gate}
 use borrow.Author.Rules.{rules}
 use Rattle.series7.proofs.sum_row.Statement.{statement}
 use Rattle.series7.proofs.sum_row.Tie as tie
@@ -21,10 +21,10 @@ row-of-requires : tie.Need-row-of-requires
 row-of-requires c κs = search rules
 
 returns : tie.Need-returns
-unfolding code_of gateNumbers familyGate
+unfolding code_of gate_numbers family_gate
 returns c = rw (← c.before.before.own-number.ensures, ← c.before.carry-in.ensures) c.row_of.ensures
 
-pub sum-row-spec : {M : Type 1} → statement M
-sum-row-spec =
+pub sum_row_spec : {M : Type 1} → statement M
+sum_row_spec =
     tie.close
     (tie.spec own-number-requires carry-in-requires mul-row-of add-row-of row-of-requires returns)

@@ -3,14 +3,14 @@ use mathlib.Core.Path.{◌≡◌, refl, sym, subst}
 use native.Mathlib.Omega.{arith}
 use borrow.Author.Rules.{rules}
 use lib.ListN.{length, take}
-use Rattle.netlist.specs.Table.{wireCount, wireLimit}
-use Rattle.netlist.proofs.Zeros.{zeros, zeros-length, zeros-all}
+use Rattle.netlist.specs.Table.{wire_count, wire_limit}
+use Rattle.netlist.proofs.Zeros.{zeros, zeros_length, zeros_all}
 use Rattle.evaluation.specs.Numbers.{Bits}
 use Rattle.column.specs.Clock.{state_of}
 use Rattle.plan.specs.Plan.{Ready, Loaded}
-use Rattle.plan.proofs.Plans.{ready-runs}
-use Rattle.calls.proofs.Calls.{handed-on, loaded-judged}
-use Rattle.simulator.proofs.Planned.{clock-file}
+use Rattle.plan.proofs.Plans.{ready_runs}
+use Rattle.calls.proofs.Calls.{handed_on, loaded_judged}
+use Rattle.simulator.proofs.Planned.{clock_file}
 use Rattle.simulator.proofs.clock.Statement.{statement}
 use Rattle.simulator.proofs.clock.Tie as tie
 
@@ -25,11 +25,11 @@ ready : (c : tie.After-known-told) → let v = c.before.v.given.0 in Ready (star
 ready c = subst (Loaded (start (load c)).args.file.now (load c).load.new.1.0) c.before.v.given.1 (load c).load.ensures
 
 -- the front of the array of wires
-front : (c : tie.After-known-told) → let v = c.before.v.given.0 in length (take (wireCount v.0 v.1.0) (zeros wireLimit)) ≡ wireCount v.0 v.1.0
-front c = let r = ready-runs _ (ready c) in zeros-length wireLimit _ (omega (arith, r.few, r.narrow))
+front : (c : tie.After-known-told) → let v = c.before.v.given.0 in length (take (wire_count v.0 v.1.0) (zeros wire_limit)) ≡ wire_count v.0 v.1.0
+front c = let r = ready_runs _ (ready c) in zeros_length wire_limit _ (omega (arith, r.few, r.narrow))
 
-front-bits : (c : tie.After-known-told) → let v = c.before.v.given.0 in Bits (take (wireCount v.0 v.1.0) (zeros wireLimit))
-front-bits c i = let v = c.before.v.given.0 in rw (zeros-all wireLimit (wireCount v.0 v.1.0) i) (omega arith)
+front-bits : (c : tie.After-known-told) → let v = c.before.v.given.0 in Bits (take (wire_count v.0 v.1.0) (zeros wire_limit))
+front-bits c i = let v = c.before.v.given.0 in rw (zeros_all wire_limit (wire_count v.0 v.1.0) i) (omega arith)
 
 slice-aggregate-load : tie.Need-slice-aggregate-load
 slice-aggregate-load c = search rules
@@ -49,47 +49,47 @@ refusal-requires c κs = search rules
 returns : tie.Need-returns
 returns c =
     let l = c.before.before.before.before in
-    handed-on _ _ c.before.enum_told.given.1 (loaded-judged _ _ _ l.load.ensures) c.refusal.ensures (refl, refl)
+    handed_on _ _ c.before.enum_told.given.1 (loaded_judged _ _ _ l.load.ensures) c.refusal.ensures (refl, refl)
 
 mul-count : tie.Need-overflow-mul-count
-mul-count c = omega (arith, (ready-runs _ (ready c)).few)
+mul-count c = omega (arith, (ready_runs _ (ready c)).few)
 
 add-count : tie.Need-overflow-add-count
-add-count c = omega (arith, (ready-runs _ (ready c)).few)
+add-count c = omega (arith, (ready_runs _ (ready c)).few)
 
 add-count-2 : tie.Need-overflow-add-count-2
-add-count-2 c = omega (arith, (ready-runs _ (ready c)).few, (ready-runs _ (ready c)).narrow)
+add-count-2 c = omega (arith, (ready_runs _ (ready c)).few, (ready_runs _ (ready c)).narrow)
 
 slice-aggregate-clock-planned : tie.Need-slice-aggregate-clock-planned
 slice-aggregate-clock-planned c = search rules
 
 array-borrow-prefix-wires : tie.Need-array-borrow-prefix-wires
-array-borrow-prefix-wires c = let k = c.before.before.before.before in omega (arith, (ready-runs _ (ready k)).few, (ready-runs _ (ready k)).narrow)
+array-borrow-prefix-wires c = let k = c.before.before.before.before in omega (arith, (ready_runs _ (ready k)).few, (ready_runs _ (ready k)).narrow)
 
 slice-aggregate-clock-planned-2 : tie.Need-slice-aggregate-clock-planned-2
 slice-aggregate-clock-planned-2 c = sym (front c.before.before.before.before.before)
 
 clock-planned-requires : tie.Need-clock-planned-requires
-clock-planned-requires c κs = let k = c.before.before.before.before.before in (ready-runs _ (ready k), front k, front-bits k)
+clock-planned-requires c κs = let k = c.before.before.before.before.before in (ready_runs _ (ready k), front k, front-bits k)
 
 same_length : tie.Need-same-length
 same_length c = search rules
 
-same-length-2 : tie.Need-same-length-2
-same-length-2 c = search rules
+same_length_2 : tie.Need-same-length-2
+same_length_2 c = search rules
 
-same-length-3 : tie.Need-same-length-3
-same-length-3 c = search rules
+same_length_3 : tie.Need-same-length-3
+same_length_3 c = search rules
 
-returns-2 : tie.Need-returns-2
-returns-2 c =
+returns_2 : tie.Need-returns-2
+returns_2 c =
     let p = c.before.before.before.before.before.before.before in
     let k = p.before.before.before.before.before.before in
     let a = (start (load k)).args in
-    clock-file a.file.now (ready k) (state_of a.contents.now a.flops.now) a.inputs.now a.values.now _ _ p.clock-planned.ensures
+    clock_file a.file.now (ready k) (state_of a.contents.now a.flops.now) a.inputs.now a.values.now _ _ p.clock-planned.ensures
 
-pub clock-spec : {M : Type 1} → statement M
-clock-spec =
+pub clock_spec : {M : Type 1} → statement M
+clock_spec =
     tie.close
     (tie.spec
     slice-aggregate-load
@@ -106,6 +106,6 @@ clock-spec =
     slice-aggregate-clock-planned-2
     clock-planned-requires
     same_length
-    same-length-2
-    same-length-3
-    returns-2)
+    same_length_2
+    same_length_3
+    returns_2)

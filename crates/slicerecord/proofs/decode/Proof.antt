@@ -1,7 +1,7 @@
 -- `slicerecord::decode` meets its contract: each field is read from its bytes. Assumes nothing.
 use borrow.Author.Rules.{rules}
 use Rattle.slicefile.specs.Lists.{tabulate}
-use Rattle.slicerecord.specs.Record.{recordOf}
+use Rattle.slicerecord.specs.Record.{record_of}
 use Rattle.slicerecord.proofs.decode.Statement.{statement}
 use Rattle.slicerecord.proofs.decode.Tie as tie
 
@@ -57,7 +57,7 @@ shared-slice-read-t25 : tie.Need-shared-slice-read-t25
 shared-slice-read-t25 c = search rules
 
 returns : tie.Need-returns
-unfolding recordOf tabulate
+unfolding record_of tabulate
 returns c =
     let c11 = c.before.before.before.before.before.before in
     let c10 = c11.before in
@@ -72,8 +72,8 @@ returns c =
     let c1 = c2.before in
     rw (c1.contents-word.ensures, c2.contents-word2.ensures, c3.contents-word3.ensures, c4.contents-word4.ensures, c5.letter-bytes.ensures, c6.letter-bytes2.ensures, c7.letter-bytes3.ensures, c8.letter-bytes4.ensures, c9.letter-bytes5.ensures, c10.letter-bytes6.ensures, c11.pin-codes.ensures)
 
-pub decode-spec : {M : Type 1} → statement M
-decode-spec =
+pub decode_spec : {M : Type 1} → statement M
+decode_spec =
     tie.close
     (tie.spec
     contents-word-requires

@@ -11,7 +11,7 @@ use Rattle.slicerecord.proofs.encode.Tie as tie
 -- the arrays that come in have their types' lengths
 sized : (c : tie.Start) → Sized c.args.slice
 sized c =
-    let g = c.well-formed.0.1.1 in
+    let g = c.well_formed.0.1.1 in
     record {
       modes = simp length-map at g.1.1.0.1.0.1;
       shifts = simp length-map at g.1.1.1.0.1.0.1;
@@ -29,8 +29,8 @@ slice-aggregate-put-bytes c = search rules
 slice-aggregate-put-bytes-2 : tie.Need-slice-aggregate-put-bytes-2
 slice-aggregate-put-bytes-2 c = search rules
 
-put-bytes-requires : tie.Need-put-bytes-requires
-put-bytes-requires c κs = search rules
+put_bytes_requires : tie.Need-put-bytes-requires
+put_bytes_requires c κs = search rules
 
 slice-aggregate-put-bytes-3 : tie.Need-slice-aggregate-put-bytes-3
 slice-aggregate-put-bytes-3 c = search rules
@@ -148,13 +148,13 @@ returns c =
     c10.put-bytes9.ensures
     c11.put-codes.ensures
 
-pub encode-spec : {M : Type 1} → statement M
-encode-spec =
+pub encode_spec : {M : Type 1} → statement M
+encode_spec =
     tie.close
     (tie.spec
     slice-aggregate-put-bytes
     slice-aggregate-put-bytes-2
-    put-bytes-requires
+    put_bytes_requires
     slice-aggregate-put-bytes-3
     slice-aggregate-put-bytes-4
     put-bytes-requires-2

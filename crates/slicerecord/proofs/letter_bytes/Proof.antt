@@ -30,8 +30,8 @@ returns : tie.Need-returns
 unfolding tabulate
 returns c = simp add-zero
 
-pub letter-bytes-spec : {M : Type 1} → statement M
-letter-bytes-spec =
+pub letter_bytes_spec : {M : Type 1} → statement M
+letter_bytes_spec =
     tie.close
     (tie.spec
     shared-slice-read-t4

@@ -6,17 +6,17 @@ use native.Mathlib.Numerals.{add-one}
 use native.Mathlib.Omega.{arith}
 use borrow.Author.Rules.{rules}
 use lib.Seq.{sets}
-use Rattle.slicefile.specs.Format.{pinCount, pinCode}
+use Rattle.slicefile.specs.Format.{pin_count, pin_code}
 use Rattle.slicefile.specs.Lists.{tabulate}
-use Rattle.slicerecord.proofs.Stores.{sets-step, sets-done}
+use Rattle.slicerecord.proofs.Stores.{sets_step, sets_done}
 use Rattle.slicerecord.proofs.pin_codes.Statement.{statement}
 use Rattle.slicerecord.proofs.pin_codes.Tie as tie
 
 abbrev invariant-loop : tie.invariant-loop
-invariant-loop body codes₀ p₀ codes p = (p ≤ pinCount) × (sets codes p (tabulate p (pinCount - p) (pinCode body)) ≡ tabulate 0 pinCount (pinCode body))
+invariant-loop body codes₀ p₀ codes p = (p ≤ pin_count) × (sets codes p (tabulate p (pin_count - p) (pin_code body)) ≡ tabulate 0 pin_count (pin_code body))
 
 abbrev decreases-loop : tie.decreases-loop
-decreases-loop body codes₀ p₀ codes p = pinCount - p
+decreases-loop body codes₀ p₀ codes p = pin_count - p
 
 loop-holds : tie.Need-loop-init invariant-loop decreases-loop
 unfolding tabulate
@@ -38,26 +38,26 @@ loop-less : tie.Need-loop-smaller invariant-loop decreases-loop
 loop-less c = search rules
 
 -- one more value of a table
-tabulate-next : (p k : ℕ) (f : ℕ → ℕ) {x : ℕ} → p < k → x ≡ f p → tabulate p (k - p) f ≡ x ∷ tabulate (p + 1) (k - (p + 1)) f
+tabulate_next : (p k : ℕ) (f : ℕ → ℕ) {x : ℕ} → p < k → x ≡ f p → tabulate p (k - p) f ≡ x ∷ tabulate (p + 1) (k - (p + 1)) f
 unfolding tabulate
-tabulate-next p k f {x} h e =
+tabulate_next p k f {x} h e =
     let g : k - p ≡ suc (k - (p + 1)) = omega arith in
     rw (e, g, add-one p)
 
 loop-again : tie.Need-loop-preserved invariant-loop decreases-loop
 loop-again c =
     let now = c.before.before.loop in
-    (search rules, sets-step now.codes now.p _ (add-one now.p) (tabulate-next now.p pinCount _ (search rules) c.pin-code.ensures) ∙ now.invariant.1)
+    (search rules, sets_step now.codes now.p _ (add-one now.p) (tabulate_next now.p pin_count _ (search rules) c.pin-code.ensures) ∙ now.invariant.1)
 
 returns : tie.Need-returns invariant-loop decreases-loop
 unfolding tabulate
 returns c =
     let now = c.before.loop in
-    let e : pinCount - now.p ≡ 0 = omega arith in
-    sets-done now.codes _ now.p (ap (λ (k : ℕ). tabulate now.p k (pinCode c.before.before.before.args.body.now)) e) now.invariant.1
+    let e : pin_count - now.p ≡ 0 = omega arith in
+    sets_done now.codes _ now.p (ap (λ (k : ℕ). tabulate now.p k (pin_code c.before.before.before.args.body.now)) e) now.invariant.1
 
-pub pin-codes-spec : {M : Type 1} → statement M
-pin-codes-spec =
+pub pin_codes_spec : {M : Type 1} → statement M
+pin_codes_spec =
     tie.close
     (tie.spec
     invariant-loop

@@ -6,7 +6,7 @@ use native.Mathlib.Omega.{arith}
 use borrow.Author.Rules.{rules}
 use lib.ListN.{length, drop, length-set, drop_of_length-le}
 use lib.Seq.{sets}
-use Rattle.slicerecord.proofs.Stores.{sets-step, sets-done, drop-next}
+use Rattle.slicerecord.proofs.Stores.{sets_step, sets_done, drop_next}
 use Rattle.slicerecord.proofs.put_bytes.Statement.{statement}
 use Rattle.slicerecord.proofs.put_bytes.Tie as tie
 
@@ -38,7 +38,7 @@ loop-again : tie.Need-loop-preserved invariant-loop decreases-loop
 loop-again c =
     let at = c.before.before.before.args in
     let now = c.before.before.loop in
-    (search rules, simp length-set now.invariant.1, sets-step now.out (at.at + now.i) _ (omega arith) (drop-next at.src.now now.i (search rules)) ∙ now.invariant.2)
+    (search rules, simp length-set now.invariant.1, sets_step now.out (at.at + now.i) _ (omega arith) (drop_next at.src.now now.i (search rules)) ∙ now.invariant.2)
 
 same_length : tie.Need-same-length invariant-loop decreases-loop
 same_length c = search rules
@@ -46,10 +46,10 @@ same_length c = search rules
 returns : tie.Need-returns invariant-loop decreases-loop
 returns c =
     let now = c.before.loop in
-    sets-done now.out _ _ (drop_of_length-le c.before.before.args.src.now c.loop-test.false) now.invariant.2
+    sets_done now.out _ _ (drop_of_length-le c.before.before.args.src.now c.loop-test.false) now.invariant.2
 
-pub put-bytes-spec : {M : Type 1} → statement M
-put-bytes-spec =
+pub put_bytes_spec : {M : Type 1} → statement M
+put_bytes_spec =
     tie.close
     (tie.spec
     invariant-loop

@@ -7,7 +7,7 @@ use borrow.Author.Rules.{rules}
 use lib.ListN.{length, drop, drop_of_length-le}
 use lib.Seq.{sets}
 use Rattle.slicerecord.specs.Record.{all_bytes}
-use Rattle.slicerecord.proofs.Stores.{numbers-step, sets-done, drop-next}
+use Rattle.slicerecord.proofs.Stores.{numbers_step, sets_done, drop_next}
 use Rattle.slicerecord.proofs.put_codes.Statement.{statement}
 use Rattle.slicerecord.proofs.put_codes.Tie as tie
 
@@ -48,8 +48,8 @@ loop-again : tie.Need-loop-preserved invariant-loop decreases-loop
 loop-again c =
     let now = c.before.before.before.before.before.before.loop in
     let at = c.before.before.before.before.before.before.before.before.before.args in
-    let left = drop-next at.codes.now now.i (search rules) in
-    (search rules, search rules, numbers-step now.out at.at now.i 2 _ left c.before.before.put-number.ensures ∙ now.invariant.2)
+    let left = drop_next at.codes.now now.i (search rules) in
+    (search rules, search rules, numbers_step now.out at.at now.i 2 _ left c.before.before.put-number.ensures ∙ now.invariant.2)
 
 same_length : tie.Need-same-length invariant-loop decreases-loop
 same_length c = search rules
@@ -58,10 +58,10 @@ returns : tie.Need-returns invariant-loop decreases-loop
 unfolding all_bytes
 returns c =
     let now = c.before.loop in
-    sets-done now.out _ _ (ap (all_bytes 2) (drop_of_length-le c.before.before.before.before.args.codes.now c.loop-test.false)) now.invariant.2
+    sets_done now.out _ _ (ap (all_bytes 2) (drop_of_length-le c.before.before.before.before.args.codes.now c.loop-test.false)) now.invariant.2
 
-pub put-codes-spec : {M : Type 1} → statement M
-put-codes-spec =
+pub put_codes_spec : {M : Type 1} → statement M
+put_codes_spec =
     tie.close
     (tie.spec
     invariant-loop

@@ -7,7 +7,7 @@ use borrow.Author.Rules.{rules}
 use lib.ListN.{length, length-set}
 use lib.Seq.{sets}
 use Rattle.slicerecord.specs.Record.{bytes_of}
-use Rattle.slicerecord.proofs.Stores.{sets-step, sets-done}
+use Rattle.slicerecord.proofs.Stores.{sets_step, sets_done}
 use Rattle.slicerecord.proofs.put_number.Statement.{statement}
 use Rattle.slicerecord.proofs.put_number.Tie as tie
 
@@ -41,7 +41,7 @@ loop-again c =
     let at = c.before.before.args in
     let now = c.before.loop in
     let e : at.k - now.i ≡ suc (at.k - (now.i + 1)) = omega arith in
-    (search rules, simp length-set now.invariant.1, sets-step now.out (at.at + now.i) _ (omega arith) (ap (λ (j : ℕ). bytes_of j now.rest) e) ∙ now.invariant.2)
+    (search rules, simp length-set now.invariant.1, sets_step now.out (at.at + now.i) _ (omega arith) (ap (λ (j : ℕ). bytes_of j now.rest) e) ∙ now.invariant.2)
 
 same_length : tie.Need-same-length invariant-loop decreases-loop
 same_length c = search rules
@@ -51,10 +51,10 @@ unfolding bytes_of
 returns c =
     let now = c.before.loop in
     let e : c.before.before.args.k - now.i ≡ 0 = omega arith in
-    sets-done now.out _ _ (ap (λ (j : ℕ). bytes_of j now.rest) e) now.invariant.2
+    sets_done now.out _ _ (ap (λ (j : ℕ). bytes_of j now.rest) e) now.invariant.2
 
-pub put-number-spec : {M : Type 1} → statement M
-put-number-spec =
+pub put_number_spec : {M : Type 1} → statement M
+put_number_spec =
     tie.close
     (tie.spec
     invariant-loop

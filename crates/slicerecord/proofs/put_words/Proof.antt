@@ -6,7 +6,7 @@ use borrow.Author.Rules.{rules}
 use lib.ListN.{length, drop, drop_of_length-le}
 use lib.Seq.{sets}
 use Rattle.slicerecord.specs.Record.{all_bytes}
-use Rattle.slicerecord.proofs.Stores.{numbers-step, sets-done, drop-next}
+use Rattle.slicerecord.proofs.Stores.{numbers_step, sets_done, drop_next}
 use Rattle.slicerecord.proofs.put_words.Statement.{statement}
 use Rattle.slicerecord.proofs.put_words.Tie as tie
 
@@ -44,8 +44,8 @@ loop-again : tie.Need-loop-preserved invariant-loop decreases-loop
 loop-again c =
     let now = c.before.before.before.before.before.before.loop in
     let at = c.before.before.before.before.before.before.before.before.before.args in
-    let left = drop-next at.words.now now.i (search rules) in
-    (search rules, search rules, numbers-step now.out at.at now.i 8 _ left c.before.before.put-number.ensures ∙ now.invariant.2)
+    let left = drop_next at.words.now now.i (search rules) in
+    (search rules, search rules, numbers_step now.out at.at now.i 8 _ left c.before.before.put-number.ensures ∙ now.invariant.2)
 
 same_length : tie.Need-same-length invariant-loop decreases-loop
 same_length c = search rules
@@ -54,10 +54,10 @@ returns : tie.Need-returns invariant-loop decreases-loop
 unfolding all_bytes
 returns c =
     let now = c.before.loop in
-    sets-done now.out _ _ (ap (all_bytes 8) (drop_of_length-le c.before.before.before.before.args.words.now c.loop-test.false)) now.invariant.2
+    sets_done now.out _ _ (ap (all_bytes 8) (drop_of_length-le c.before.before.before.before.args.words.now c.loop-test.false)) now.invariant.2
 
-pub put-words-spec : {M : Type 1} → statement M
-put-words-spec =
+pub put_words_spec : {M : Type 1} → statement M
+put_words_spec =
     tie.close
     (tie.spec
     invariant-loop

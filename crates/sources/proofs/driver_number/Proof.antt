@@ -1,7 +1,7 @@
 -- `sources::driver_number` meets its contract. Each arm is given that d is the constructor at what it binds. Assumes nothing.
 use mathlib.Core.Path.{◌≡◌, subst}
 use native.Mathlib.Omega.{arith}
-use Rattle.netlist.specs.Table.{inputRoom, code_of}
+use Rattle.netlist.specs.Table.{input_room, code_of}
 use Rattle.slicefile.specs.Driver.{Within}
 use Rattle.slicefile.specs.declared.Driver.{Driver}
 use borrow.Author.Rules.{rules}
@@ -9,8 +9,8 @@ use Rattle.sources.proofs.driver_number.Statement.{statement}
 use Rattle.sources.proofs.driver_number.Tie as tie
 
 -- what was found is there
-there : (c : tie.Start) {d : Driver} → c.args.d ≡ d → Within c.args.n inputRoom d
-there c e = subst (Within c.args.n inputRoom) e c.requires.1
+there : (c : tie.Start) {d : Driver} → c.args.d ≡ d → Within c.args.n input_room d
+there c e = subst (Within c.args.n input_room) e c.requires.1
 
 enum-known-d : tie.Need-enum-known-d
 enum-known-d c = search rules
@@ -43,13 +43,13 @@ returns : tie.Need-returns
 unfolding code_of
 returns c = rw (c.before.before.d.given.1, c.if1.true)
 
-returns-2 : tie.Need-returns-2
+returns_2 : tie.Need-returns-2
 unfolding code_of
-returns-2 c = rw (c.before.before.d.given.1, c.if1.false)
+returns_2 c = rw (c.before.before.d.given.1, c.if1.false)
 
-returns-3 : tie.Need-returns-3
+returns_3 : tie.Need-returns-3
 unfolding code_of
-returns-3 c = rw c.enum_told.given.1
+returns_3 c = rw c.enum_told.given.1
 
 returns-4 : tie.Need-returns-4
 unfolding code_of
@@ -59,8 +59,8 @@ returns-5 : tie.Need-returns-5
 unfolding code_of
 returns-5 c = rw c.before.before.d3.given.1 c.output-number.ensures
 
-pub driver-number-spec : {M : Type 1} → statement M
-driver-number-spec =
+pub driver_number_spec : {M : Type 1} → statement M
+driver_number_spec =
     tie.close
     (tie.spec
     enum-known-d
@@ -73,7 +73,7 @@ driver-number-spec =
     enum-known-d-3
     output-number-requires
     returns
-    returns-2
-    returns-3
+    returns_2
+    returns_3
     returns-4
     returns-5)

@@ -10,8 +10,8 @@ returns c = search (rules, lt-ltb)
 add-result : tie.Need-overflow-add-result
 add-result c = search rules
 
-returns-2 : tie.Need-returns-2
-returns-2 c = search (rules, le-ltb)
+returns_2 : tie.Need-returns-2
+returns_2 c = search (rules, le-ltb)
 
-pub output-signal-spec : {M : Type 1} → statement M
-output-signal-spec = tie.close (tie.spec returns add-result returns-2)
+pub output_signal_spec : {M : Type 1} → statement M
+output_signal_spec = tie.close (tie.spec returns add-result returns_2)

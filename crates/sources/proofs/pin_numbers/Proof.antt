@@ -9,17 +9,17 @@ use lib.Dec.{lit≤}
 use lib.ListN.{length, get_or, length-set}
 use lib.Seq.{get_or-set_same, get_or-set_other}
 use Rattle.netlist.specs.Table.{code_of}
-use Rattle.slicefile.specs.Format.{pinCount}
+use Rattle.slicefile.specs.Format.{pin_count}
 use Rattle.slicefile.proofs.Tabulate.{tabulated}
-use Rattle.sources.specs.Sources.{pinSource, pinNumbers}
+use Rattle.sources.specs.Sources.{pin_source, pin_numbers}
 use Rattle.sources.proofs.pin_numbers.Statement.{statement}
 use Rattle.sources.proofs.pin_numbers.Tie as tie
 
 abbrev invariant-loop : tie.invariant-loop
-invariant-loop n m body numbers₀ p₀ numbers p = (p ≤ pinCount) × (length numbers ≡ pinCount) × ((j : ℕ) → j < p → get_or numbers j 0 ≡ code_of n (pinSource n m body j))
+invariant-loop n m body numbers₀ p₀ numbers p = (p ≤ pin_count) × (length numbers ≡ pin_count) × ((j : ℕ) → j < p → get_or numbers j 0 ≡ code_of n (pin_source n m body j))
 
 abbrev decreases-loop : tie.decreases-loop
-decreases-loop n m body numbers₀ p₀ numbers p = pinCount - p
+decreases-loop n m body numbers₀ p₀ numbers p = pin_count - p
 
 loop-holds : tie.Need-loop-init invariant-loop decreases-loop
 loop-holds c = (lit≤ tt, refl, λ j h. absurd (not-suc-le-zero h))
@@ -50,13 +50,13 @@ loop-again c =
     )
 
 returns : tie.Need-returns invariant-loop decreases-loop
-unfolding pinNumbers
+unfolding pin_numbers
 returns c =
     let l = c.before.loop in
-    tabulated _ pinCount l.numbers l.invariant.1 (λ p h. l.invariant.2 p (omega arith))
+    tabulated _ pin_count l.numbers l.invariant.1 (λ p h. l.invariant.2 p (omega arith))
 
-pub pin-numbers-spec : {M : Type 1} → statement M
-pin-numbers-spec =
+pub pin_numbers_spec : {M : Type 1} → statement M
+pin_numbers_spec =
     tie.close
     (tie.spec
     invariant-loop

@@ -7,13 +7,13 @@ use borrow.Fn.Kinds.{In}
 use borrow.Fn.PlainCycle.{Measures, is, falls, and}
 use lib.ListN.{length, take}
 use lib.Seq.{length-sets, length-take-le}
-use Rattle.column.specs.File.{fileLimit}
+use Rattle.column.specs.File.{file_limit}
 use Rattle.column.proofs.judge.Reads as judge
 use Rattle.slicerecord.proofs.put_bytes.Reads as put-bytes
 use Rattle.stream.specs.declared.Reader.{Reader}
 use Rattle.stream.specs.Feeding.{NextState, Takes}
-use Rattle.stream.proofs.NextStates.{next-judged}
-use Rattle.stream.proofs.Taking.{own-len, own-passed, start-own, same_next, takes_all, takes-over}
+use Rattle.stream.proofs.NextStates.{next_judged}
+use Rattle.stream.proofs.Taking.{own_len, own_passed, start_own, same_next, takes_all, takes_over}
 use Rattle.stream.proofs.next_reader.Reads as next-reader
 use Rattle.stream.proofs.overfull_reply.Reads as overfull-reply
 use Rattle.stream.proofs.take_run.Reads as take-run
@@ -37,24 +37,24 @@ abbrev claims : ℕ → lts.Claims
 claims t = (below t, take-run.Post, overfull-reply.Asked, overfull-reply.Learnt, put-bytes.Asked, put-bytes.Learnt, judge.Asked, judge.Learnt, next-reader.Asked, next-reader.Learnt)
 
 module _ (t : ℕ) where
-  within : (c : lts.After-slice-known (claims t) (at t) take-run.Post) → c.before.args.reader.len ≤ fileLimit
-  within c = own-len c.before.args.reader c.before.requires.1.1
+  within : (c : lts.After-slice-known (claims t) (at t) take-run.Post) → c.before.args.reader.len ≤ file_limit
+  within c = own_len c.before.args.reader c.before.requires.1.1
 
-  sub-room : lts.Need-overflow-sub-room (claims t) (at t) take-run.Post
-  sub-room c = within c.before
+  sub_room : lts.Need-overflow-sub-room (claims t) (at t) take-run.Post
+  sub_room c = within c.before
 
-  slice-aggregate-take-run : lts.Need-slice-aggregate-take-run (claims t) (at t) take-run.Post
-  slice-aggregate-take-run c = sym (length-take-le _ _ (omega (arith, c.before.before.if1.true)))
+  slice_aggregate_take_run : lts.Need-slice-aggregate-take-run (claims t) (at t) take-run.Post
+  slice_aggregate_take_run c = sym (length-take-le _ _ (omega (arith, c.before.before.if1.true)))
 
-  take-run-requires : lts.Need-take-run-requires (claims t) (at t) take-run.Post
-  take-run-requires c κs =
+  take_run_requires : lts.Need-take-run-requires (claims t) (at t) take-run.Post
+  take_run_requires c κs =
       let k = c.before.before.before.before in (
-        omega (arith, sym (slice-aggregate-take-run c), c.before.before.if1.true, k.before.requires.0),
-        (k.before.requires.1.0, start-own k.before.args.reader.len (within k)),
+        omega (arith, sym (slice_aggregate_take_run c), c.before.before.if1.true, k.before.requires.0),
+        (k.before.requires.1.0, start_own k.before.args.reader.len (within k)),
       )
 
-  overfull-reply-requires : lts.Need-overfull-reply-requires (claims t) (at t) take-run.Post
-  overfull-reply-requires c κs = tt
+  overfull_reply_requires : lts.Need-overfull-reply-requires (claims t) (at t) take-run.Post
+  overfull_reply_requires c κs = tt
 
   same_length : lts.Need-same-length (claims t) (at t) take-run.Post
   same_length c = search rules
@@ -63,32 +63,32 @@ module _ (t : ℕ) where
   returns c =
       let p = c.before.before.before in
       let k = p.before.before.before.before.before in
-      takes-over k.before.args.reader k.before.args.store.now k.before.args.run.now k.before.requires.1.0 (within k) k.before.args.last
+      takes_over k.before.args.reader k.before.args.store.now k.before.args.run.now k.before.requires.1.0 (within k) k.before.args.last
       p.before.before.before.if1.true c.overfull-reply.ensures p.take-run.ensures
 
-  put-bytes-requires : lts.Need-put-bytes-requires (claims t) (at t) take-run.Post
-  put-bytes-requires c κs =
+  put_bytes_requires : lts.Need-put-bytes-requires (claims t) (at t) take-run.Post
+  put_bytes_requires c κs =
       let k = c.before.before.before in
       omega (arith, within k, c.before.if1.false, k.before.requires.1.0)
 
-  add-end : lts.Need-overflow-add-end (claims t) (at t) take-run.Post
-  add-end c = search rules
+  add_end : lts.Need-overflow-add-end (claims t) (at t) take-run.Post
+  add_end c = search rules
 
-  slice-reshare-prefix-bytes : lts.Need-slice-reshare-prefix-bytes (claims t) (at t) take-run.Post
-  slice-reshare-prefix-bytes c =
+  slice_reshare_prefix_bytes : lts.Need-slice-reshare-prefix-bytes (claims t) (at t) take-run.Post
+  slice_reshare_prefix_bytes c =
       let p = c.before.before in
       let k = p.before.before.before.before in
       let a = k.before.args in
       omega (arith, within k, p.before.before.if1.false, k.before.requires.1.0, ap length p.put-bytes.ensures, length-sets a.store.now a.reader.len a.run.now)
 
-  slice-aggregate-bytes : lts.Need-slice-aggregate-bytes (claims t) (at t) take-run.Post
-  slice-aggregate-bytes c = sym (length-take-le _ _ (slice-reshare-prefix-bytes c.before))
+  slice_aggregate_bytes : lts.Need-slice-aggregate-bytes (claims t) (at t) take-run.Post
+  slice_aggregate_bytes c = sym (length-take-le _ _ (slice_reshare_prefix_bytes c.before))
 
-  judge-requires : lts.Need-judge-requires (claims t) (at t) take-run.Post
-  judge-requires c κs = tt
+  judge_requires : lts.Need-judge-requires (claims t) (at t) take-run.Post
+  judge_requires c κs = tt
 
-  same-length-2 : lts.Need-same-length-2 (claims t) (at t) take-run.Post
-  same-length-2 c = search rules
+  same_length_2 : lts.Need-same-length-2 (claims t) (at t) take-run.Post
+  same_length_2 c = search rules
 
   -- the reader after bytes that all found room
   moved : (c : lts.After-put-bytes (claims t) (at t) take-run.Post) {next : Reader}
@@ -100,37 +100,37 @@ module _ (t : ℕ) where
       takes_all k.before.args.reader k.before.args.store.now k.before.args.run.now k.before.requires.1.0 (within k) k.before.args.last
       (omega (arith, c.before.before.if1.false)) c.put-bytes.ensures h
 
-  returns-2 : lts.Need-returns-2 (claims t) (at t) take-run.Post
-  returns-2 c = moved c.before.before.before.before.before (next-judged _ _ _ c.before.if2.true c.judge.ensures)
+  returns_2 : lts.Need-returns-2 (claims t) (at t) take-run.Post
+  returns_2 c = moved c.before.before.before.before.before (next_judged _ _ _ c.before.if2.true c.judge.ensures)
 
-  next-reader-requires : lts.Need-next-reader-requires (claims t) (at t) take-run.Post
-  next-reader-requires c κs =
+  next_reader_requires : lts.Need-next-reader-requires (claims t) (at t) take-run.Post
+  next_reader_requires c κs =
       let s = c.before.before.before.before.before.before.before.before.before in
-      own-passed s.args.reader s.requires.1.1
+      own_passed s.args.reader s.requires.1.1
 
-  same-length-3 : lts.Need-same-length-3 (claims t) (at t) take-run.Post
-  same-length-3 c = search rules
+  same_length_3 : lts.Need-same-length-3 (claims t) (at t) take-run.Post
+  same_length_3 c = search rules
 
-  returns-3 : lts.Need-returns-3 (claims t) (at t) take-run.Post
-  returns-3 c = moved c.before.before.before.before.before (same_next refl (sym (slice-aggregate-bytes c.before.before)) (sym c.before.if2.false) c.next-reader.ensures)
+  returns_3 : lts.Need-returns-3 (claims t) (at t) take-run.Post
+  returns_3 c = moved c.before.before.before.before.before (same_next refl (sym (slice_aggregate_bytes c.before.before)) (sym c.before.if2.false) c.next-reader.ensures)
 
 pub +take-run-spec : {M : Type 1} → statement M
 +take-run-spec =
     close μ
     (λ t. lts.spec (claims t) (at t) take-run.Post
-    (sub-room t)
-    (slice-aggregate-take-run t)
-    (take-run-requires t)
-    (overfull-reply-requires t)
+    (sub_room t)
+    (slice_aggregate_take_run t)
+    (take_run_requires t)
+    (overfull_reply_requires t)
     (same_length t)
     (returns t)
-    (put-bytes-requires t)
-    (add-end t)
-    (slice-reshare-prefix-bytes t)
-    (slice-aggregate-bytes t)
-    (judge-requires t)
-    (same-length-2 t)
-    (returns-2 t)
-    (next-reader-requires t)
-    (same-length-3 t)
-    (returns-3 t))
+    (put_bytes_requires t)
+    (add_end t)
+    (slice_reshare_prefix_bytes t)
+    (slice_aggregate_bytes t)
+    (judge_requires t)
+    (same_length_2 t)
+    (returns_2 t)
+    (next_reader_requires t)
+    (same_length_3 t)
+    (returns_3 t))

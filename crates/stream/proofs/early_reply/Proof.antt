@@ -2,7 +2,7 @@
 use mathlib.Core.Path.{sym, ap, ◌∙◌}
 use borrow.Author.Rules.{rules}
 use Rattle.stream.specs.Feeding.{early}
-use Rattle.stream.proofs.NextStates.{early-other}
+use Rattle.stream.proofs.NextStates.{early_other}
 use Rattle.stream.proofs.early_reply.Statement.{statement}
 use Rattle.stream.proofs.early_reply.Tie as tie
 
@@ -15,12 +15,12 @@ returns c = search rules
 enum-known-checked-2 : tie.Need-enum-known-checked-2
 enum-known-checked-2 c = search rules
 
-returns-2 : tie.Need-returns-2
-returns-2 c = early-other c.if1.false ∙ sym (ap early c.before.before.checked.given.1)
+returns_2 : tie.Need-returns-2
+returns_2 c = early_other c.if1.false ∙ sym (ap early c.before.before.checked.given.1)
 
-returns-3 : tie.Need-returns-3
-returns-3 c = search rules
+returns_3 : tie.Need-returns-3
+returns_3 c = search rules
 
-pub early-reply-spec : {M : Type 1} → statement M
-early-reply-spec =
-    tie.close (tie.spec enum-known-checked returns enum-known-checked-2 returns-2 returns-3)
+pub early_reply_spec : {M : Type 1} → statement M
+early_reply_spec =
+    tie.close (tie.spec enum-known-checked returns enum-known-checked-2 returns_2 returns_3)

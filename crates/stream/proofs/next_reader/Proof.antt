@@ -1,9 +1,9 @@
 -- `stream::next_reader` meets its contract. Assumes nothing.
 use mathlib.Core.Path.{◌≡◌, ◌∙◌, refl, ap}
 use borrow.Author.Rules.{rules}
-use Rattle.column.specs.Check.{checkFrom}
+use Rattle.column.specs.Check.{check_from}
 use Rattle.stream.specs.Feeding.{early}
-use Rattle.stream.proofs.NextStates.{next-verdict, next_more}
+use Rattle.stream.proofs.NextStates.{next_verdict, next_more}
 use Rattle.stream.proofs.next_reader.Statement.{statement}
 use Rattle.stream.proofs.next_reader.Tie as tie
 
@@ -20,14 +20,14 @@ enum-told-2 : tie.Need-enum-told-2
 enum-told-2 c = search rules
 
 -- what was said is what the check says
-said : (c : tie.After-early-reply) → let a = c.before.before.before.args in c.early-reply.result ≡ early (checkFrom a.passed a.bytes.now)
+said : (c : tie.After-early-reply) → let a = c.before.before.before.args in c.early-reply.result ≡ early (check_from a.passed a.bytes.now)
 said c = c.early-reply.ensures ∙ ap early c.before.check-from.ensures.0
 
 returns : tie.Need-returns
-returns c = next-verdict _ _ _ refl (said c.before.before) c.enum-told2.given.1
+returns c = next_verdict _ _ _ refl (said c.before.before) c.enum-told2.given.1
 
-returns-2 : tie.Need-returns-2
-returns-2 c = let r = c.before.before in next_more _ _ _ refl (said r) c.enum_told.given.1 r.before.check-from.ensures.1
+returns_2 : tie.Need-returns-2
+returns_2 c = let r = c.before.before in next_more _ _ _ refl (said r) c.enum_told.given.1 r.before.check-from.ensures.1
 
-pub next-reader-spec : {M : Type 1} → statement M
-next-reader-spec = tie.close (tie.spec check-from-requires early-reply-requires enum_told enum-told-2 returns returns-2)
+pub next_reader_spec : {M : Type 1} → statement M
+next_reader_spec = tie.close (tie.spec check-from-requires early-reply-requires enum_told enum-told-2 returns returns_2)

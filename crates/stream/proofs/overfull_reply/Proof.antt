@@ -14,8 +14,8 @@ enum-known-said c = search rules
 returns : tie.Need-returns
 returns c = sym (ap overfull c.enum_told.given.1)
 
-returns-2 : tie.Need-returns-2
-returns-2 c = sym (ap overfull c.before.said.given.1)
+returns_2 : tie.Need-returns-2
+returns_2 c = sym (ap overfull c.before.said.given.1)
 
-pub overfull-reply-spec : {M : Type 1} → statement M
-overfull-reply-spec = tie.close (tie.spec enum_told enum-known-said returns returns-2)
+pub overfull_reply_spec : {M : Type 1} → statement M
+overfull_reply_spec = tie.close (tie.spec enum_told enum-known-said returns returns_2)

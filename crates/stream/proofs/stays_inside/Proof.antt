@@ -4,14 +4,14 @@ use mathlib.Core.Bool.{true≢false}
 use native.Mathlib.Omega.{arith}
 use borrow.Author.Rules.{rules}
 use borrow.Author.Tests.{eqb-true}
-use Rattle.framing.specs.Framing.{sizeRefusal}
-use Rattle.column.proofs.Places.{start-at}
-use Rattle.column.proofs.CheckLaws.{tail-whole}
-use Rattle.stream.proofs.NextStates.{inside-stays}
+use Rattle.framing.specs.Framing.{size_refusal}
+use Rattle.column.proofs.Places.{start_at}
+use Rattle.column.proofs.CheckLaws.{tail_whole}
+use Rattle.stream.proofs.NextStates.{inside_stays}
 use Rattle.stream.proofs.stays_inside.Statement.{statement}
 use Rattle.stream.proofs.stays_inside.Tie as tie
 
-good : (c : tie.Else4) → sizeRefusal c.before.before.before.before.before.before.args.bytes.now ≡ 0
+good : (c : tie.Else4) → size_refusal c.before.before.before.before.before.before.args.bytes.now ≡ 0
 good c = sym c.before.size-refusal.ensures ∙ c.if4.false
 
 mul_at : tie.Need-overflow-mul-at
@@ -26,8 +26,8 @@ add-if1 c = search rules
 returns : tie.Need-returns
 returns c e = absurd (true≢false (sym e))
 
-returns-2 : tie.Need-returns-2
-returns-2 c e = absurd (true≢false (sym e))
+returns_2 : tie.Need-returns-2
+returns_2 c e = absurd (true≢false (sym e))
 
 add-if3 : tie.Need-overflow-add-if3
 add-if3 c = search rules
@@ -35,8 +35,8 @@ add-if3 c = search rules
 add-if3-2 : tie.Need-overflow-add-if3-2
 add-if3-2 c = search rules
 
-returns-3 : tie.Need-returns-3
-returns-3 c e = absurd (true≢false (sym e))
+returns_3 : tie.Need-returns-3
+returns_3 c e = absurd (true≢false (sym e))
 
 size-refusal-requires : tie.Need-size-refusal-requires
 size-refusal-requires c κs = search rules
@@ -71,22 +71,22 @@ returns-6 c e =
     let s = l.before.before in
     let k = s.before.before in
     let a = k.before.before.before.before.args in
-    let here = start-at a.bytes.now a.passed in
-    let cut = rw tail-whole at (sym c.header-refusal.ensures ∙ eqb-true c.header-refusal.result 1 e) in
-    inside-stays a.bytes.now a.passed a.more (good s) (omega (arith, l.if5.false)) (omega (arith, here, k.before.before.if1.false)) (omega (arith, here, k.if3.false)) (rw here cut)
+    let here = start_at a.bytes.now a.passed in
+    let cut = rw tail_whole at (sym c.header-refusal.ensures ∙ eqb-true c.header-refusal.result 1 e) in
+    inside_stays a.bytes.now a.passed a.more (good s) (omega (arith, l.if5.false)) (omega (arith, here, k.before.before.if1.false)) (omega (arith, here, k.if3.false)) (rw here cut)
 
-pub stays-inside-spec : {M : Type 1} → statement M
-stays-inside-spec =
+pub stays_inside_spec : {M : Type 1} → statement M
+stays_inside_spec =
     tie.close
     (tie.spec
     mul_at
     add_at
     add-if1
     returns
-    returns-2
+    returns_2
     add-if3
     add-if3-2
-    returns-3
+    returns_3
     size-refusal-requires
     returns-4
     shared-slice-read-n

@@ -1,7 +1,7 @@
 -- `toposort::first_mark` meets its contract. Assumes nothing.
 use Prim.Native.Nat.{◌≤◌}
 use native.Mathlib.Omega.{arith}
-use Rattle.toposort.proofs.Reading.{places-most}
+use Rattle.toposort.proofs.Reading.{places_most}
 use borrow.Author.Rules.{rules}
 use Rattle.toposort.proofs.first_mark.Statement.{statement}
 use Rattle.toposort.proofs.first_mark.Tie as tie
@@ -23,7 +23,7 @@ place-count-requires c κs = search rules
 
 -- the gate has at most six places
 few : (c : tie.After-place-count) → c.place-count.result ≤ 6
-few c = omega (arith, c.place-count.ensures, places-most c.before.before.before.before.args.n c.before.wide16.result)
+few c = omega (arith, c.place-count.ensures, places_most c.before.before.before.before.args.n c.before.wide16.result)
 
 cast-result : tie.Need-overflow-cast-result
 cast-result c = omega (arith, few c)
@@ -34,8 +34,8 @@ sub-result c = omega (arith, few c)
 returns : tie.Need-returns
 returns c = rw (c.place-count.ensures, c.before.wide16.ensures)
 
-pub first-mark-spec : {M : Type 1} → statement M
-first-mark-spec =
+pub first_mark_spec : {M : Type 1} → statement M
+first_mark_spec =
     tie.close
     (tie.spec
     mul-wide16

@@ -3,15 +3,15 @@ use Prim.Native.Nat.{◌*◌, ◌-◌, ◌≤◌}
 use mathlib.Core.Path.{◌≡◌}
 use native.Mathlib.Omega.{arith}
 use lib.ListN.{length, length-set}
-use Rattle.netlist.specs.Table.{signalCount}
+use Rattle.netlist.specs.Table.{signal_count}
 use Rattle.toposort.specs.Components.{FlopsListed}
-use Rattle.toposort.proofs.Flops.{none-listed, one-more-listed}
+use Rattle.toposort.proofs.Flops.{none_listed, one_more_listed}
 use Rattle.toposort.proofs.list_flops.Statement.{statement}
 use Rattle.toposort.proofs.list_flops.Tie as tie
 
 abbrev invariant-loop : tie.invariant-loop
 invariant-loop n marks₀ order₀ count q₀ marks order q =
-    (q ≤ 8 * n) × (length marks ≡ signalCount n) × (length order ≡ signalCount n) × FlopsListed q marks order
+    (q ≤ 8 * n) × (length marks ≡ signal_count n) × (length order ≡ signal_count n) × FlopsListed q marks order
 
 abbrev decreases-loop : tie.decreases-loop
 decreases-loop n marks₀ order₀ count q₀ marks order q = count - q
@@ -20,7 +20,7 @@ mul-count : tie.Need-overflow-mul-count invariant-loop decreases-loop
 mul-count c = omega arith
 
 loop-holds : tie.Need-loop-init invariant-loop decreases-loop
-loop-holds c = (omega arith, c.requires.0.1, c.requires.0.2, none-listed _ _ c.requires.1)
+loop-holds c = (omega arith, c.requires.0.1, c.requires.0.2, none_listed _ _ c.requires.1)
 
 mul-x : tie.Need-overflow-mul-x invariant-loop decreases-loop
 mul-x c = omega arith
@@ -52,13 +52,13 @@ loop-less c = omega arith
 loop-again : tie.Need-loop-preserved invariant-loop decreases-loop
 loop-again c =
     let i = c.before.loop.invariant in
-    (omega arith, simp length-set i.1, simp length-set i.2, one-more-listed (omega arith) (omega arith) i.3)
+    (omega arith, simp length-set i.1, simp length-set i.2, one_more_listed (omega arith) (omega arith) i.3)
 
 same_length : tie.Need-same-length invariant-loop decreases-loop
 same_length c = omega arith
 
-same-length-2 : tie.Need-same-length-2 invariant-loop decreases-loop
-same-length-2 c = omega arith
+same_length_2 : tie.Need-same-length-2 invariant-loop decreases-loop
+same_length_2 c = omega arith
 
 returns : tie.Need-returns invariant-loop decreases-loop
 returns c =
@@ -66,8 +66,8 @@ returns c =
     let e : l.q ≡ 8 * c.before.before.args.n = omega arith in
     rw e at l.invariant.3
 
-pub list-flops-spec : {M : Type 1} → statement M
-list-flops-spec =
+pub list_flops_spec : {M : Type 1} → statement M
+list_flops_spec =
     tie.close
     (tie.spec
     invariant-loop
@@ -85,5 +85,5 @@ list-flops-spec =
     loop-less
     loop-again
     same_length
-    same-length-2
+    same_length_2
     returns)

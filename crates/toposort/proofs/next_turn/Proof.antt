@@ -7,12 +7,12 @@ use Rattle.toposort.specs.declared.Read.{Read}
 use Rattle.toposort.specs.declared.Read.TheVariants.{Signal}
 use Rattle.netlist.specs.declared.Gate.{Gate}
 use Rattle.netlist.specs.Graph.{Reads}
-use Rattle.netlist.specs.Settle.{readsIn}
-use Rattle.netlist.specs.Table.{signalCount, gateOf}
-use Rattle.toposort.specs.Reading.{readAt}
-use Rattle.toposort.specs.Search.{Search, stackIn}
+use Rattle.netlist.specs.Settle.{reads_in}
+use Rattle.netlist.specs.Table.{signal_count, gate_of}
+use Rattle.toposort.specs.Reading.{read_at}
+use Rattle.toposort.specs.Search.{Search, stack_in}
 use Rattle.toposort.specs.Components.{On, Closed}
-use Rattle.toposort.proofs.Reading.{reads-of, not-both, same-signal}
+use Rattle.toposort.proofs.Reading.{reads_of_lem, not_both, same_signal}
 use borrow.Author.Rules.{rules}
 use Rattle.toposort.proofs.next_turn.Statement.{statement}
 use Rattle.toposort.proofs.next_turn.Tie as tie
@@ -21,17 +21,17 @@ abbrev start : tie.After-read-at → tie.Start
 start c = c.before.before.before.before.before.before.before.before.before.before.before.before
 
 abbrev net : tie.Start → ℕ → Gate
-net s = gateOf s.args.table.now s.args.n
+net s = gate_of s.args.table.now s.args.n
 
 abbrev buffers : tie.Start → Search
-buffers s = stackIn s.args.marks s.args.pos s.args.stack s.args.heads
+buffers s = stack_in s.args.marks s.args.pos s.args.stack s.args.heads
 
 -- place i of the top is the one before its mark
 abbrev Next : tie.Start → ℕ → Type 0
 Next s i = suc i ≡ get_or s.args.marks.now s.args.top 0
 
 abbrev readTop : tie.Start → ℕ → Read
-readTop s i = readAt (net s) s.args.top i
+readTop s i = read_at (net s) s.args.top i
 
 -- that is the place that the code looked at
 looked : (c : tie.After-read-at) (i : ℕ) → Next (start c) i → readTop (start c) i ≡ c.read_at.result
@@ -45,17 +45,17 @@ begun c = start c.before.before
 abbrev read : tie.After-y → ℕ
 read c = c.y.given.0.0
 
-top-reads : (c : tie.After-y) → Reads (readsIn (net (begun c))) (begun c).args.top (read c)
+top-reads : (c : tie.After-y) → Reads (reads_in (net (begun c))) (begun c).args.top (read c)
 top-reads c =
     let a = c.before.before in
-    reads-of (net (begun c)) (begun c).args.top (a.before.wide8.result - 1) (read c) (sym a.read_at.ensures ∙ c.y.given.1)
+    reads_of_lem (net (begun c)) (begun c).args.top (a.before.wide8.result - 1) (read c) (sym a.read_at.ensures ∙ c.y.given.1)
 
-y-below : (c : tie.After-y) → read c < signalCount (begun c).args.n
+y-below : (c : tie.After-y) → read c < signal_count (begun c).args.n
 y-below c = let b = begun c in b.pre.0.1 b.args.top (read c) b.pre.1.top_below (top-reads c)
 
 -- the read is y and no other
 only : (c : tie.After-y) (i z : ℕ) → Next (begun c) i → readTop (begun c) i ≡ Signal z → z ≡ read c
-only c i z e r = same-signal (net (begun c)) _ i z _ r (looked c.before.before i e ∙ c.y.given.1)
+only c i z e r = same_signal (net (begun c)) _ i z _ r (looked c.before.before i e ∙ c.y.given.1)
 
 abbrev y-place : tie.After-shared-slice-known9 → tie.After-y
 y-place c = c.before.before
@@ -109,8 +109,8 @@ wide16-requires-2 c κs = search rules
 returns : tie.Need-returns
 returns c = search rules
 
-returns-2 : tie.Need-returns-2
-returns-2 c = search rules
+returns_2 : tie.Need-returns-2
+returns_2 c = search rules
 
 wide8-requires : tie.Need-wide8-requires
 wide8-requires c κs = search rules
@@ -121,7 +121,7 @@ sub-read-at c = search rules
 read-at-requires : tie.Need-read-at-requires
 read-at-requires c κs =
     let s = c.before.before.before.before.before.before.before.before.before.before.before in
-    let o = s.requires.1.top-open in
+    let o = s.requires.1.top_open in
     let has = s.requires.0.2 s.args.top o in
     let e = c.wide8.ensures in
     let d = c.before.if1.false in
@@ -134,16 +134,16 @@ enum-known-y : tie.Need-enum-known-y
 enum-known-y c = search rules
 
 shared-slice-read-if3 : tie.Need-shared-slice-read-if3
-shared-slice-read-if3 c = let a = c.before.before in omega (arith, y-below a, (begun a).requires.1.marks-sized)
+shared-slice-read-if3 c = let a = c.before.before in omega (arith, y-below a, (begun a).requires.1.marks_sized)
 
-returns-3 : tie.Need-returns-3
-returns-3 c = let a = y-place c.before in (y-below a, top-reads a, c.if3.true)
+returns_3 : tie.Need-returns-3
+returns_3 c = let a = y-place c.before in (y-below a, top-reads a, c.if3.true)
 
 mul-wide16-3 : tie.Need-overflow-mul-wide16-3
 mul-wide16-3 c = let a = y-place c.before in omega (arith, y-below a, (begun a).pre.0.0.0)
 
 shared-slice-read-wide16-3 : tie.Need-shared-slice-read-wide16-3
-shared-slice-read-wide16-3 c = let a = y-place c.before.before in omega (arith, y-below a, (begun a).pre.1.pos-sized)
+shared-slice-read-wide16-3 c = let a = y-place c.before.before in omega (arith, y-below a, (begun a).pre.1.pos_sized)
 
 wide16-requires-3 : tie.Need-wide16-requires-3
 wide16-requires-3 c κs = search rules
@@ -184,7 +184,7 @@ returns-6 c =
 returns-7 : tie.Need-returns-7
 returns-7 c =
     let b = c.before.before in
-    (b.before.before.if1.false, λ i z e r. absurd (not-both (net (start b)) _ i z (looked b i e ∙ c.enum_told.given.1) r))
+    (b.before.before.if1.false, λ i z e r. absurd (not_both (net (start b)) _ i z (looked b i e ∙ c.enum_told.given.1) r))
 
 returns-8 : tie.Need-returns-8
 returns-8 c =
@@ -196,8 +196,8 @@ returns-8 c =
           (λ o. c.if5.false (d.wide164.ensures ∙ rw e o.holds)),
     )
 
-pub next-turn-spec : {M : Type 1} → statement M
-next-turn-spec =
+pub next_turn_spec : {M : Type 1} → statement M
+next_turn_spec =
     tie.close
     (tie.spec
     sub-last
@@ -209,14 +209,14 @@ next-turn-spec =
     shared-slice-read-wide16-2
     wide16-requires-2
     returns
-    returns-2
+    returns_2
     wide8-requires
     sub-read-at
     read-at-requires
     enum_told
     enum-known-y
     shared-slice-read-if3
-    returns-3
+    returns_3
     mul-wide16-3
     shared-slice-read-wide16-3
     wide16-requires-3

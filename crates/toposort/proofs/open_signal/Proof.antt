@@ -1,21 +1,21 @@
 -- `toposort::open_signal` meets its contract. Assumes nothing.
 use Prim.Native.Nat.{◌≤◌, ◌<◌}
 use native.Mathlib.Omega.{arith}
-use Rattle.netlist.specs.Table.{signalCount}
+use Rattle.netlist.specs.Table.{signal_count}
 use Rattle.toposort.specs.Reading.{head_of}
-use Rattle.toposort.proofs.Components.{depth_le, count-le}
-use Rattle.toposort.proofs.Opening.{len-lt, push}
-use Rattle.toposort.proofs.Reading.{places, places-most, none_before}
+use Rattle.toposort.proofs.Components.{depth_le, count_le}
+use Rattle.toposort.proofs.Opening.{len_lt, push}
+use Rattle.toposort.proofs.Reading.{places, places_most, none_before}
 use borrow.Author.Rules.{rules}
 use Rattle.toposort.proofs.open_signal.Statement.{statement}
 use Rattle.toposort.proofs.open_signal.Tie as tie
 
 -- the stack has room, and so have the other arrays
 has_room : (c : tie.Start) → let p = c.args.p in
-    (p.len < signalCount c.args.n) × (p.count ≤ p.len) × (p.depth ≤ p.len)
+    (p.len < signal_count c.args.n) × (p.count ≤ p.len) × (p.depth ≤ p.len)
 has_room c = (
-  len-lt c.requires.0 _ c.requires.1.0.2 c.requires.1.0.3,
-  count-le c.requires.0,
+  len_lt c.requires.0 _ c.requires.1.0.2 c.requires.1.0.3,
+  count_le c.requires.0,
   depth_le c.requires.0,
 )
 
@@ -76,11 +76,11 @@ add-q-3 c = omega (arith, has_room (start c), (start c).requires.1.0.0.0)
 same_length : tie.Need-same-length
 same_length c = search rules
 
-same-length-2 : tie.Need-same-length-2
-same-length-2 c = search rules
+same_length_2 : tie.Need-same-length-2
+same_length_2 c = search rules
 
-same-length-3 : tie.Need-same-length-3
-same-length-3 c = search rules
+same_length_3 : tie.Need-same-length-3
+same_length_3 c = search rules
 
 same-length-4 : tie.Need-same-length-4
 same-length-4 c = search rules
@@ -91,14 +91,14 @@ same-length-5 c = search rules
 returns : tie.Need-returns
 returns c =
     let s = start c in
-    let most = places-most s.args.n (head_of s.args.table.now s.args.y) in
+    let most = places_most s.args.n (head_of s.args.table.now s.args.y) in
     let e = c.first-mark.ensures in
     let has = places s.args.table.now s.args.n s.args.y in
     push s.pre.0 _ s.pre.1.0.2 s.pre.1.0.3 _ (omega arith) (omega arith) (omega arith)
     (λ i z h r. none_before s.args.table.now s.args.n s.args.y i z (omega arith) r) s.pre.1.0.1 s.pre.1.1
 
-pub open-signal-spec : {M : Type 1} → statement M
-open-signal-spec =
+pub open_signal_spec : {M : Type 1} → statement M
+open_signal_spec =
     tie.close
     (tie.spec
     first-mark-requires
@@ -119,8 +119,8 @@ open-signal-spec =
     add-q-2
     add-q-3
     same_length
-    same-length-2
-    same-length-3
+    same_length_2
+    same_length_3
     same-length-4
     same-length-5
     returns)

@@ -2,16 +2,16 @@
 use mathlib.Core.Path.{◌≡◌, sym}
 use native.Mathlib.Omega.{arith}
 use lib.ListN.{length, take}
-use Rattle.netlist.specs.Table.{signalLimit, signalCount}
-use Rattle.toposort.specs.Search.{searchOf}
+use Rattle.netlist.specs.Table.{signal_limit, signal_count}
+use Rattle.toposort.specs.Search.{search_of}
 use Rattle.toposort.specs.Components.{Sized}
-use Rattle.toposort.proofs.Tally.{zeros, zeros-length, zeros-all}
+use Rattle.toposort.proofs.Tally.{zeros, zeros_length, zeros_all}
 use borrow.Author.Rules.{rules}
 use Rattle.toposort.proofs.order_or_loop.Statement.{statement}
 use Rattle.toposort.proofs.order_or_loop.Tie as tie
 
-part : (c : tie.Start) → signalCount c.args.n ≡ length (take (signalCount c.args.n) (zeros signalLimit))
-part c = sym (zeros-length signalLimit (signalCount c.args.n) c.requires.0.0.0)
+part : (c : tie.Start) → signal_count c.args.n ≡ length (take (signal_count c.args.n) (zeros signal_limit))
+part c = sym (zeros_length signal_limit (signal_count c.args.n) c.requires.0.0.0)
 
 mul-size : tie.Need-overflow-mul-size
 mul-size c = search rules
@@ -49,12 +49,12 @@ slice-aggregate-scan-all-5 c = part c.before.before.before.before.before.before.
 scan-all-requires : tie.Need-scan-all-requires
 scan-all-requires c κs =
     let b = c.before.before.before.before.before.before.before.before in
-    let N = signalCount b.args.n in
-    let z = take N (zeros signalLimit) in
+    let N = signal_count b.args.n in
+    let z = take N (zeros signal_limit) in
     let e = sym (part b) in
-    let bs = searchOf z z z z z b.args.order.now in
+    let bs = search_of z z z z z b.args.order.now in
     let sized : Sized N bs = record { marks = e; pos = e; stack = e; heads = e; path = e; order = b.requires.0.2 } in
-    ((b.requires.0.0, b.requires.1), (b.requires.0.1, (sized, zeros-all signalLimit N)))
+    ((b.requires.0.0, b.requires.1), (b.requires.0.1, (sized, zeros_all signal_limit N)))
 
 same_length : tie.Need-same-length
 same_length c = search rules
@@ -64,16 +64,16 @@ returns c =
     let s = c.before.before.before.before.before.before.before.before.scan-all.ensures.0 in
     (c.if1.true, s.loops c.if1.true, s.least)
 
-same-length-2 : tie.Need-same-length-2
-same-length-2 c = search rules
+same_length_2 : tie.Need-same-length-2
+same_length_2 c = search rules
 
-returns-2 : tie.Need-returns-2
-returns-2 c =
+returns_2 : tie.Need-returns-2
+returns_2 c =
     let s = c.before.before.before.before.before.before.before.before.scan-all.ensures in
-    (s.0.ordered (omega (arith, s.0.best-le, c.if1.false)), s.1)
+    (s.0.ordered (omega (arith, s.0.best_le, c.if1.false)), s.1)
 
-pub order-or-loop-spec : {M : Type 1} → statement M
-order-or-loop-spec =
+pub order_or_loop_spec : {M : Type 1} → statement M
+order_or_loop_spec =
     tie.close
     (tie.spec
     mul-size
@@ -90,5 +90,5 @@ order-or-loop-spec =
     scan-all-requires
     same_length
     returns
-    same-length-2
-    returns-2)
+    same_length_2
+    returns_2)

@@ -1,6 +1,6 @@
 -- `toposort::place_count` meets its contract, test by test. Assumes nothing.
 use borrow.Author.Tests.{lt-ltb, le-ltb, eq-eqb, ne_eqb}
-use Rattle.toposort.specs.Reading.{placeCount}
+use Rattle.toposort.specs.Reading.{place_count}
 use borrow.Author.Rules.{rules}
 use Rattle.toposort.proofs.place_count.Statement.{statement}
 use Rattle.toposort.proofs.place_count.Tie as tie
@@ -27,37 +27,37 @@ add-if5 : tie.Need-overflow-add-if5
 add-if5 c = search rules
 
 returns : tie.Need-returns
-unfolding placeCount
+unfolding place_count
 returns c = simp (lt-ltb _ _ c.if1.true)
 
-returns-2 : tie.Need-returns-2
-unfolding placeCount
-returns-2 c = simp (le-ltb _ _ c.before.if1.false, lt-ltb _ _ c.if2.true)
+returns_2 : tie.Need-returns-2
+unfolding place_count
+returns_2 c = simp (le-ltb _ _ c.before.if1.false, lt-ltb _ _ c.if2.true)
 
-returns-3 : tie.Need-returns-3
-unfolding placeCount
-returns-3 c = simp (le-ltb _ _ c.before.before.if1.false, le-ltb _ _ c.before.if2.false, eq-eqb _ _ c.if3.true)
+returns_3 : tie.Need-returns-3
+unfolding place_count
+returns_3 c = simp (le-ltb _ _ c.before.before.if1.false, le-ltb _ _ c.before.if2.false, eq-eqb _ _ c.if3.true)
 
 returns-4 : tie.Need-returns-4
-unfolding placeCount
+unfolding place_count
 returns-4 c =
     let b = c.before.before in
     simp (le-ltb _ _ b.before.if1.false, le-ltb _ _ b.if2.false, ne_eqb _ _ c.before.if3.false, eq-eqb _ _ c.if4.true)
 
 returns-5 : tie.Need-returns-5
-unfolding placeCount
+unfolding place_count
 returns-5 c =
     let b = c.before.before.before in
     simp (le-ltb _ _ b.before.if1.false, le-ltb _ _ b.if2.false, ne_eqb _ _ c.before.before.if3.false, ne_eqb _ _ c.before.if4.false, eq-eqb _ _ c.if5.true)
 
 returns-6 : tie.Need-returns-6
-unfolding placeCount
+unfolding place_count
 returns-6 c =
     let b = c.before.before.before in
     simp (le-ltb _ _ b.before.if1.false, le-ltb _ _ b.if2.false, ne_eqb _ _ c.before.before.if3.false, ne_eqb _ _ c.before.if4.false, ne_eqb _ _ c.if5.false)
 
-pub place-count-spec : {M : Type 1} → statement M
-place-count-spec =
+pub place_count_spec : {M : Type 1} → statement M
+place_count_spec =
     tie.close
     (tie.spec
     mul-if1
@@ -68,8 +68,8 @@ place-count-spec =
     mul-if5
     add-if5
     returns
-    returns-2
-    returns-3
+    returns_2
+    returns_3
     returns-4
     returns-5
     returns-6)

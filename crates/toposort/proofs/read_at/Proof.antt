@@ -2,8 +2,8 @@
 use Prim.Native.Nat.{suc, ◌+◌, ◌*◌, ◌-◌}
 use mathlib.Core.Path.{◌≡◌, sym, ◌∙◌}
 use native.Mathlib.Omega.{arith}
-use Rattle.netlist.specs.Table.{rowLength}
-use Rattle.toposort.proofs.Reading.{counted-source}
+use Rattle.netlist.specs.Table.{row_length}
+use Rattle.toposort.proofs.Reading.{counted_source}
 use borrow.Author.Rules.{rules}
 use Rattle.toposort.proofs.read_at.Statement.{statement}
 use Rattle.toposort.proofs.read_at.Tie as tie
@@ -33,11 +33,11 @@ returns : tie.Need-returns
 returns c =
     let s = c.before.before.before.before in
     let b = s.args in
-    let e : rowLength * b.x + (6 - b.i) ≡ rowLength * b.x + suc (5 - b.i) = omega arith in
-    c.Read-of.ensures ∙ rw (c.before.wide16.ensures, e) (sym (counted-source b.table.now b.n b.x (5 - b.i) s.requires.3))
+    let e : row_length * b.x + (6 - b.i) ≡ row_length * b.x + suc (5 - b.i) = omega arith in
+    c.Read-of.ensures ∙ rw (c.before.wide16.ensures, e) (sym (counted_source b.table.now b.n b.x (5 - b.i) s.requires.3))
 
-pub read-at-spec : {M : Type 1} → statement M
-read-at-spec =
+pub read_at_spec : {M : Type 1} → statement M
+read_at_spec =
     tie.close
     (tie.spec
     mul_at

@@ -2,21 +2,21 @@
 use Prim.Native.Nat.{◌*◌, ◌≤◌}
 use mathlib.Core.Path.{sym, ◌∙◌}
 use native.Mathlib.Omega.{arith}
-use Rattle.netlist.specs.Table.{signalCount, gateOf, FlopsFirst}
-use Rattle.toposort.specs.Search.{searchOf}
+use Rattle.netlist.specs.Table.{signal_count, gate_of, FlopsFirst}
+use Rattle.toposort.specs.Search.{search_of}
 use Rattle.toposort.specs.Components.{Components, remaining}
-use Rattle.toposort.proofs.Reading.{flop-reads}
-use Rattle.toposort.proofs.Opening.{all-judged, start}
+use Rattle.toposort.proofs.Reading.{flop_reads}
+use Rattle.toposort.proofs.Opening.{all_judged, start}
 use Rattle.toposort.proofs.scan_all.Statement.{statement}
 use Rattle.toposort.proofs.scan_all.Tie as tie
 
 abbrev invariant-loop : tie.invariant-loop
 invariant-loop table n marks₀ pos₀ stack₀ heads₀ path₀ order₀ size flops p₀ marks pos stack heads path order p =
-    Components (gateOf table n) (signalCount n) (searchOf marks pos stack heads path order) p × FlopsFirst n order × (8 * n ≤ p.done)
+    Components (gate_of table n) (signal_count n) (search_of marks pos stack heads path order) p × FlopsFirst n order × (8 * n ≤ p.done)
 
 abbrev decreases-loop : tie.decreases-loop
 decreases-loop table n marks₀ pos₀ stack₀ heads₀ path₀ order₀ size flops p₀ marks pos stack heads path order p =
-    remaining (signalCount n) marks p
+    remaining (signal_count n) marks p
 
 abbrev begin : tie.After-list-flops invariant-loop decreases-loop → tie.Start invariant-loop decreases-loop
 begin c = c.before.before.before.before.before.before.before.before.before.before
@@ -45,7 +45,7 @@ loop-holds c =
     let e = l.list-flops.ensures in (
       start _ _ _ b.pre.0.1
           (record { marks = k.0 ∙ f.marks; pos = f.pos; stack = f.stack; heads = f.heads; path = f.path; order = k.1.0 ∙ f.order })
-          e (flop-reads _ _ b.pre.1.0),
+          e (flop_reads _ _ b.pre.1.0),
       e.first,
       omega arith,
     )
@@ -69,11 +69,11 @@ loop-again c =
 same_length : tie.Need-same-length invariant-loop decreases-loop
 same_length c = c.before.before.loop.invariant.0.sized.marks ∙ sym (begin (flopped c.before.before)).pre.1.1.0.marks
 
-same-length-2 : tie.Need-same-length-2 invariant-loop decreases-loop
-same-length-2 c = c.before.before.loop.invariant.0.sized.pos ∙ sym (begin (flopped c.before.before)).pre.1.1.0.pos
+same_length_2 : tie.Need-same-length-2 invariant-loop decreases-loop
+same_length_2 c = c.before.before.loop.invariant.0.sized.pos ∙ sym (begin (flopped c.before.before)).pre.1.1.0.pos
 
-same-length-3 : tie.Need-same-length-3 invariant-loop decreases-loop
-same-length-3 c = c.before.before.loop.invariant.0.sized.stack ∙ sym (begin (flopped c.before.before)).pre.1.1.0.stack
+same_length_3 : tie.Need-same-length-3 invariant-loop decreases-loop
+same_length_3 c = c.before.before.loop.invariant.0.sized.stack ∙ sym (begin (flopped c.before.before)).pre.1.1.0.stack
 
 same-length-4 : tie.Need-same-length-4 invariant-loop decreases-loop
 same-length-4 c = c.before.before.loop.invariant.0.sized.heads ∙ sym (begin (flopped c.before.before)).pre.1.1.0.heads
@@ -85,10 +85,10 @@ same-length-6 : tie.Need-same-length-6 invariant-loop decreases-loop
 same-length-6 c = c.before.before.loop.invariant.0.sized.order ∙ sym (begin (flopped c.before.before)).pre.1.1.0.order
 
 returns : tie.Need-returns invariant-loop decreases-loop
-returns c = let i = c.before.before.loop.invariant in (all-judged i.0 (omega (arith, i.0.next_le, c.if1.false)), i.1)
+returns c = let i = c.before.before.loop.invariant in (all_judged i.0 (omega (arith, i.0.next_le, c.if1.false)), i.1)
 
-pub scan-all-spec : {M : Type 1} → statement M
-scan-all-spec =
+pub scan_all_spec : {M : Type 1} → statement M
+scan_all_spec =
     tie.close
     (tie.spec
     invariant-loop
@@ -101,8 +101,8 @@ scan-all-spec =
     loop-less
     loop-again
     same_length
-    same-length-2
-    same-length-3
+    same_length_2
+    same_length_3
     same-length-4
     same-length-5
     same-length-6

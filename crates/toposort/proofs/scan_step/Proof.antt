@@ -31,11 +31,11 @@ take-turn-requires c κs =
 same_length : tie.Need-same-length
 same_length c = search rules
 
-same-length-2 : tie.Need-same-length-2
-same-length-2 c = search rules
+same_length_2 : tie.Need-same-length-2
+same_length_2 c = search rules
 
-same-length-3 : tie.Need-same-length-3
-same-length-3 c = search rules
+same_length_3 : tie.Need-same-length-3
+same_length_3 c = search rules
 
 same-length-4 : tie.Need-same-length-4
 same-length-4 c = search rules
@@ -76,19 +76,19 @@ same-length-11 c = search rules
 same-length-12 : tie.Need-same-length-12
 same-length-12 c = search rules
 
-returns-2 : tie.Need-returns-2
-returns-2 c = search rules
+returns_2 : tie.Need-returns-2
+returns_2 c = search rules
 
 add-q : tie.Need-overflow-add-q
 add-q c = search rules
 
-returns-3 : tie.Need-returns-3
-returns-3 c =
+returns_3 : tie.Need-returns-3
+returns_3 c =
     let b = begin c.before.before.before in
     pass b.pre.0 b.pre.1.1 c.if2.false (omega (arith, c.before.before.if1.false))
 
-pub scan-step-spec : {M : Type 1} → statement M
-scan-step-spec =
+pub scan_step_spec : {M : Type 1} → statement M
+scan_step_spec =
     tie.close
     (tie.spec
     sub-last
@@ -97,8 +97,8 @@ scan-step-spec =
     wide16-requires
     take-turn-requires
     same_length
-    same-length-2
-    same-length-3
+    same_length_2
+    same_length_3
     same-length-4
     same-length-5
     same-length-6
@@ -111,6 +111,6 @@ scan-step-spec =
     same-length-10
     same-length-11
     same-length-12
-    returns-2
+    returns_2
     add-q
-    returns-3)
+    returns_3)

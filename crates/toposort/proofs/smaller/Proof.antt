@@ -8,8 +8,8 @@ use Rattle.toposort.proofs.smaller.Tie as tie
 returns : tie.Need-returns
 returns c = (omega arith, omega arith, inr refl)
 
-returns-2 : tie.Need-returns-2
-returns-2 c = (omega arith, omega arith, inl refl)
+returns_2 : tie.Need-returns-2
+returns_2 c = (omega arith, omega arith, inl refl)
 
-pub smaller-spec : {M : Type 1} → statement M
-smaller-spec = tie.close (tie.spec returns returns-2)
+pub smaller_spec : {M : Type 1} → statement M
+smaller_spec = tie.close (tie.spec returns returns_2)

@@ -5,11 +5,11 @@ use mathlib.Core.Logic.{inl}
 use native.Mathlib.Omega.{arith}
 use lib.ListN.{length, get_or}
 use Rattle.toposort.specs.declared.Turn.{Turn}
-use Rattle.netlist.specs.Table.{signalLimit, signalCount, gateOf}
-use Rattle.toposort.specs.Tally.{doneMark}
-use Rattle.toposort.specs.Search.{Search, stackIn}
+use Rattle.netlist.specs.Table.{signal_limit, signal_count, gate_of}
+use Rattle.toposort.specs.Tally.{done_mark}
+use Rattle.toposort.specs.Search.{Search, stack_in}
 use Rattle.toposort.specs.Components.{TopReady, Wants}
-use Rattle.toposort.proofs.Components.{order-room, ready, above-read}
+use Rattle.toposort.proofs.Components.{order_room, ready, above_read}
 use Rattle.toposort.proofs.Moves.{raise, meet, merge, leave, close}
 use borrow.Author.Rules.{rules}
 use Rattle.toposort.proofs.take_turn.Statement.{statement}
@@ -19,20 +19,20 @@ abbrev begin : tie.After-next-turn → tie.Start
 begin c = c.before.before.before.before.before.before.before.before.before.before.before.before
 
 abbrev buffers : tie.Start → Search
-buffers b = stackIn b.args.marks b.args.pos b.args.stack b.args.heads
+buffers b = stack_in b.args.marks b.args.pos b.args.stack b.args.heads
 
-top_ready : (b : tie.Start) → TopReady (signalCount b.args.n) (buffers b) b.args.p b.args.top
+top_ready : (b : tie.Start) → TopReady (signal_count b.args.n) (buffers b) b.args.p b.args.top
 top_ready b = ready b.requires.0 b.requires.1.2
 
 -- the order has room for the top
 has_room : (b : tie.Start) → b.args.p.done < length b.args.order.now
-has_room b = let r = top_ready b in order-room b.requires.0 b.args.top r.top_below (λ e. omega (arith, r.top-open.left))
+has_room b = let r = top_ready b in order_room b.requires.0 b.args.top r.top_below (λ e. omega (arith, r.top_open.left))
 
 -- what the top wants
 abbrev Wanted : tie.After-next-turn → Turn → Type 0
 Wanted c t =
     let b = begin c in
-    Wants (gateOf b.args.table.now b.args.n) (signalCount b.args.n) (buffers b) b.args.p b.args.top t
+    Wants (gate_of b.args.table.now b.args.n) (signal_count b.args.n) (buffers b) b.args.p b.args.top t
 
 wanted : (c : tie.After-next-turn) (t : Turn) → c.next-turn.result ≡ t → Wanted c t
 wanted c t e = subst (Wanted c) e c.next-turn.ensures
@@ -40,7 +40,7 @@ wanted c t e = subst (Wanted c) e c.next-turn.ensures
 -- the top can be listed
 may-close : (b : tie.Start) → let a = b.args in
     ((a.top < length a.marks.now) × (a.p.done < length a.order.now))
-    × ((a.top < signalLimit) × (a.p.done < signalLimit) × (0 < a.p.depth))
+    × ((a.top < signal_limit) × (a.p.done < signal_limit) × (0 < a.p.depth))
 may-close b =
     let r = top_ready b in
     let h = has_room b in
@@ -49,8 +49,8 @@ may-close b =
 
 -- its mark can rise
 may-raise : (b : tie.Start) → let a = b.args in
-    (a.top < length a.marks.now) × (a.top < signalLimit) × (get_or a.marks.now a.top 0 < doneMark)
-may-raise b = let r = top_ready b in (omega (arith, r), omega (arith, r, b.requires.1.0.0), r.top-open.left)
+    (a.top < length a.marks.now) × (a.top < signal_limit) × (get_or a.marks.now a.top 0 < done_mark)
+may-raise b = let r = top_ready b in (omega (arith, r), omega (arith, r, b.requires.1.0.0), r.top_open.left)
 
 next-turn-requires : tie.Need-next-turn-requires
 next-turn-requires c κs =
@@ -87,7 +87,7 @@ open-signal-requires c κs =
     let a = d.before.before in
     let b = begin a in
     let w = wanted a _ d.y.given.1 in
-    (b.pre.0, ((b.pre.1.0, b.pre.1.1, w.0, w.2), above-read b.pre.0 b.pre.1.2 w.1))
+    (b.pre.0, ((b.pre.1.0, b.pre.1.1, w.0, w.2), above_read b.pre.0 b.pre.1.2 w.1))
 
 enum-told-3 : tie.Need-enum-told-3
 enum-told-3 c = search rules
@@ -107,11 +107,11 @@ raise-top-requires-2 c κs = may-raise (begin c.before.before.before.before)
 same_length : tie.Need-same-length
 same_length c = search rules
 
-same-length-2 : tie.Need-same-length-2
-same-length-2 c = search rules
+same_length_2 : tie.Need-same-length-2
+same_length_2 c = search rules
 
-same-length-3 : tie.Need-same-length-3
-same-length-3 c = search rules
+same_length_3 : tie.Need-same-length-3
+same_length_3 c = search rules
 
 same-length-4 : tie.Need-same-length-4
 same-length-4 c = search rules
@@ -144,8 +144,8 @@ same-length-9 c = search rules
 same-length-10 : tie.Need-same-length-10
 same-length-10 c = search rules
 
-returns-2 : tie.Need-returns-2
-returns-2 c =
+returns_2 : tie.Need-returns-2
+returns_2 c =
     let k = c.before.before.before.before in
     let d = k.before.before.before in
     let a = d.before.before in
@@ -166,8 +166,8 @@ same-length-13 c = search rules
 same-length-14 : tie.Need-same-length-14
 same-length-14 c = search rules
 
-returns-3 : tie.Need-returns-3
-returns-3 c =
+returns_3 : tie.Need-returns-3
+returns_3 c =
     let k = c.before.before in
     let d = k.before.before in
     let a = d.before.before in
@@ -175,7 +175,7 @@ returns-3 c =
     let w = wanted a _ d.enum-told2.given.1 in
     let e = k.raise-top.ensures in
     rw (e.0, e.1)
-    (raise b.pre.0 b.pre.1.2 _ _ b.pre.1.1 refl w.0 (omega arith) b.pre.0.best-loop (λ i y e r. inl (w.1 i y e r)))
+    (raise b.pre.0 b.pre.1.2 _ _ b.pre.1.1 refl w.0 (omega arith) b.pre.0.best_loop (λ i y e r. inl (w.1 i y e r)))
 
 same-length-15 : tie.Need-same-length-15
 same-length-15 c = search rules
@@ -241,8 +241,8 @@ returns-6 c =
     rw (e.0, e.1)
     (meet b.pre.0 b.pre.1.2 _ _ _ b.pre.1.1 refl w.3 m.1 m.0 m.2 w.0 w.4 w.1 w.2)
 
-pub take-turn-spec : {M : Type 1} → statement M
-take-turn-spec =
+pub take_turn_spec : {M : Type 1} → statement M
+take_turn_spec =
     tie.close
     (tie.spec
     next-turn-requires
@@ -261,8 +261,8 @@ take-turn-spec =
     smaller-requires
     raise-top-requires-2
     same_length
-    same-length-2
-    same-length-3
+    same_length_2
+    same_length_3
     same-length-4
     same-length-5
     returns
@@ -271,12 +271,12 @@ take-turn-spec =
     same-length-8
     same-length-9
     same-length-10
-    returns-2
+    returns_2
     same-length-11
     same-length-12
     same-length-13
     same-length-14
-    returns-3
+    returns_3
     same-length-15
     same-length-16
     same-length-17

@@ -4,19 +4,19 @@ use mathlib.Core.Path.{◌≡◌}
 use Prim.Native.Nat.{◌+◌, ◌-◌, ◌≤◌, ◌<◌}
 use native.Mathlib.Omega.{arith}
 use borrow.Author.Rules.{rules}
-use Rattle.walks.specs.Marked.{sourceReached, anyReached}
-use Rattle.walks.proofs.Rows.{any-more}
+use Rattle.walks.specs.Marked.{source_reached, any_reached}
+use Rattle.walks.proofs.Rows.{any_more}
 use Rattle.walks.proofs.any_reached.Statement.{statement}
 use Rattle.walks.proofs.any_reached.Tie as tie
 
 abbrev invariant-loop : tie.invariant-loop
-invariant-loop n numbers i k changed marks found₀ j₀ found j = (j ≤ k) × (found ≡ anyReached n (sourceReached changed marks) numbers (i + j) (k - j))
+invariant-loop n numbers i k changed marks found₀ j₀ found j = (j ≤ k) × (found ≡ any_reached n (source_reached changed marks) numbers (i + j) (k - j))
 
 abbrev decreases-loop : tie.decreases-loop
 decreases-loop n numbers i k changed marks found₀ j₀ found j = j
 
 loop-holds : tie.Need-loop-init invariant-loop decreases-loop
-unfolding anyReached
+unfolding any_reached
 loop-holds c =
     let k = c.before.before.before.args.k in
     let none : k - k ≡ 0 = omega arith in
@@ -45,7 +45,7 @@ loop-again c =
     let a = c.before.before.before.before.before.before.before.args in
     let l = c.before.before.before.loop in
     let more : 0 < l.j = omega arith in
-    (omega arith, rw (any-more a.n (sourceReached a.changed.now a.marks.now) a.numbers.now a.i l.j a.k more l.invariant.0, c.number-reached.ensures, l.invariant.1))
+    (omega arith, rw (any_more a.n (source_reached a.changed.now a.marks.now) a.numbers.now a.i l.j a.k more l.invariant.0, c.number-reached.ensures, l.invariant.1))
 
 returns : tie.Need-returns invariant-loop decreases-loop
 returns c =
@@ -55,8 +55,8 @@ returns c =
     let all : a.k - l.j ≡ a.k = omega arith in
     rw (place, all) at l.invariant.1
 
-pub any-reached-spec : {M : Type 1} → statement M
-any-reached-spec =
+pub any_reached_spec : {M : Type 1} → statement M
+any_reached_spec =
     tie.close
     (tie.spec
     invariant-loop

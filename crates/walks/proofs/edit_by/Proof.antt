@@ -3,19 +3,19 @@ use mathlib.Core.Path.{◌≡◌, ◌∙◌, sym}
 use native.Mathlib.Omega.{arith}
 use borrow.Author.Rules.{rules}
 use lib.ListN.{length, take}
-use Rattle.netlist.specs.Table.{wireCount, wireLimit}
-use Rattle.netlist.proofs.Zeros.{zeros, zeros-length, zeros-all}
+use Rattle.netlist.specs.Table.{wire_count, wire_limit}
+use Rattle.netlist.proofs.Zeros.{zeros, zeros_length, zeros_all}
 use Rattle.evaluation.specs.Numbers.{Bits}
-use Rattle.walks.proofs.Turns.{edited-by}
+use Rattle.walks.proofs.Turns.{edited_by}
 use Rattle.walks.proofs.edit_by.Statement.{statement}
 use Rattle.walks.proofs.edit_by.Tie as tie
 
 -- the front of the local array
-front : (b : tie.Start) → let count = wireCount b.args.n (length b.args.inputs.now) in length (take count (zeros wireLimit)) ≡ count
-front b = zeros-length wireLimit _ (omega (arith, b.requires.0.0.sized.0, b.requires.1.0))
+front : (b : tie.Start) → let count = wire_count b.args.n (length b.args.inputs.now) in length (take count (zeros wire_limit)) ≡ count
+front b = zeros_length wire_limit _ (omega (arith, b.requires.0.0.sized.0, b.requires.1.0))
 
-front-bits : (b : tie.Start) → Bits (take (wireCount b.args.n (length b.args.inputs.now)) (zeros wireLimit))
-front-bits b c = rw (zeros-all wireLimit (wireCount b.args.n (length b.args.inputs.now)) c) (omega arith)
+front-bits : (b : tie.Start) → Bits (take (wire_count b.args.n (length b.args.inputs.now)) (zeros wire_limit))
+front-bits b c = rw (zeros_all wire_limit (wire_count b.args.n (length b.args.inputs.now)) c) (omega arith)
 
 mul-count : tie.Need-overflow-mul-count
 mul-count c = search rules
@@ -58,10 +58,10 @@ returns c =
     let edit = read.before.before.before.before.before in
     let values = edit.before.before.before.before in
     let laid = values.before.before.before.before.before in
-    edited-by edit.edit-wires.ensures (values.lay-values.ensures.0.inputs ∙ laid.lay-inputs.ensures.1) values.lay-values.ensures.1 read.read-values.ensures
+    edited_by edit.edit-wires.ensures (values.lay-values.ensures.0.inputs ∙ laid.lay-inputs.ensures.1) values.lay-values.ensures.1 read.read-values.ensures
 
-pub edit-by-spec : {M : Type 1} → statement M
-edit-by-spec =
+pub edit_by_spec : {M : Type 1} → statement M
+edit_by_spec =
     tie.close
     (tie.spec
     mul-count

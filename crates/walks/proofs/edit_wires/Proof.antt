@@ -5,10 +5,10 @@ use Prim.Native.Nat.{◌*◌, ◌-◌, ◌≤◌}
 use native.Mathlib.Omega.{arith}
 use borrow.Author.Rules.{rules}
 use lib.ListN.{length, length-set}
-use Rattle.netlist.specs.Table.{signalLimit, signalCount}
+use Rattle.netlist.specs.Table.{signal_limit, signal_count}
 use Rattle.walks.specs.Walks.{StillWires}
-use Rattle.walks.proofs.Laying.{still-same}
-use Rattle.walks.proofs.Turns.{EditedAt, turn, turn-wires, set-still, edit-start, edit-turn, edit-pass, edit-end}
+use Rattle.walks.proofs.Laying.{still_same}
+use Rattle.walks.proofs.Turns.{EditedAt, turn, turn_wires, set_still, edit_start, edit_turn, edit_pass, edit_end}
 use Rattle.walks.proofs.edit_wires.Statement.{statement}
 use Rattle.walks.proofs.edit_wires.Tie as tie
 
@@ -16,7 +16,7 @@ abbrev invariant-loop : tie.invariant-loop
 invariant-loop table n m order contents changed edited wires₀ marks₀ i₀ wires marks i =
     (8 * n ≤ i)
     × (i ≤ length order)
-    × (length marks ≡ signalLimit)
+    × (length marks ≡ signal_limit)
     × StillWires n m wires₀ wires
     × EditedAt table n order contents changed edited wires₀ i marks wires
 
@@ -32,7 +32,7 @@ mul-i c = search rules
 loop-holds : tie.Need-loop-init invariant-loop decreases-loop
 loop-holds c =
     let b = c.before.before.before.before.before.before in
-    (search rules, omega (arith, b.requires.0.ordered.size), search rules, still-same b.requires.1, edit-start b.requires.0 _ _ _ _ signalLimit)
+    (search rules, omega (arith, b.requires.0.ordered.size), search rules, still_same b.requires.1, edit_start b.requires.0 _ _ _ _ signal_limit)
 
 mul-x : tie.Need-overflow-mul-x invariant-loop decreases-loop
 mul-x c = search rules
@@ -59,7 +59,7 @@ gate-value-requires c κs =
     let k = (start l).requires.0 in
     let t = turn k l.loop.i l.loop.invariant.0 (search rules) in
     let w = l.loop.invariant.3.wires in
-    ((k.sized, t.1, t.2), (turn-wires k w _ t.1, w.bits))
+    ((k.sized, t.1, t.2), (turn_wires k w _ t.1, w.bits))
 
 array-write-marks : tie.Need-array-write-marks invariant-loop decreases-loop
 array-write-marks c = let l = c.before.before.before.before.before.before.before in omega (arith, turn (start l).requires.0 l.loop.i l.loop.invariant.0 (search rules), (start l).requires.0.sized.0)
@@ -85,22 +85,22 @@ loop-again c =
     let k = (start l).requires.0 in
     let t = turn k l.loop.i l.loop.invariant.0 (search rules) in
     let v = l.loop.invariant in
-    let long : signalCount (start l).args.n ≤ length l.loop.marks = omega (arith, k.sized.0, v.2) in
+    let long : signal_count (start l).args.n ≤ length l.loop.marks = omega (arith, k.sized.0, v.2) in
     let r = c.before.gate-reached.ensures in
     ⊎_elim
     (λ w. (
       search rules,
       search rules,
       rw w.4 (simp length-set v.2),
-      rw w.3 (set-still k _ _ v.3 l.loop.i t.0 _ w.2.ensures),
-      rw (w.3, w.4) (edit-turn k _ _ _ _ v.3 l.loop.i t.0 long v.4 _ w.2.ensures (sym r ∙ w.0.taken)),
+      rw w.3 (set_still k _ _ v.3 l.loop.i t.0 _ w.2.ensures),
+      rw (w.3, w.4) (edit_turn k _ _ _ _ v.3 l.loop.i t.0 long v.4 _ w.2.ensures (sym r ∙ w.0.taken)),
     ))
     (λ w. (
       search rules,
       search rules,
       rw w.2 (simp length-set v.2),
       rw w.1 v.3,
-      rw (w.1, w.2) (edit-pass k _ _ _ _ v.3 l.loop.i t.0 long v.4 (sym r ∙ w.0.left)),
+      rw (w.1, w.2) (edit_pass k _ _ _ _ v.3 l.loop.i t.0 long v.4 (sym r ∙ w.0.left)),
     ))
     c.if1.branch
 
@@ -111,10 +111,10 @@ returns : tie.Need-returns invariant-loop decreases-loop
 returns c =
     let l = c.before in
     let b = start l in
-    record { still = l.loop.invariant.3; done = edit-end b.pre.0 _ _ _ _ l.loop.marks l.loop.invariant.3 b.pre.1 l.loop.i (search rules) l.loop.invariant.4 }
+    record { still = l.loop.invariant.3; done = edit_end b.pre.0 _ _ _ _ l.loop.marks l.loop.invariant.3 b.pre.1 l.loop.i (search rules) l.loop.invariant.4 }
 
-pub edit-wires-spec : {M : Type 1} → statement M
-edit-wires-spec =
+pub edit_wires_spec : {M : Type 1} → statement M
+edit_wires_spec =
     tie.close
     (tie.spec
     invariant-loop

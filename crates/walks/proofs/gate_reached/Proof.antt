@@ -3,10 +3,10 @@ use mathlib.Core.Path.{◌≡◌, ◌∙◌}
 use Prim.Native.Nat.{ℕ, ◌+◌, ◌*◌, ◌≤◌}
 use native.Mathlib.Omega.{arith}
 use lib.ListN.{length}
-use Rattle.netlist.specs.Table.{rowLength, signalLimit, signalCount, inputRoom}
+use Rattle.netlist.specs.Table.{row_length, signal_limit, signal_count, input_room}
 use Rattle.walks.specs.Marked.{NumbersFit}
-use Rattle.walks.proofs.Reached.{or-both}
-use Rattle.walks.proofs.Rows.{reached-lut, reached-zero, reached-stored, reached-select, reached-xor, reached-same}
+use Rattle.walks.proofs.Reached.{or_both}
+use Rattle.walks.proofs.Rows.{reached_lut, reached_zero, reached_stored, reached_select, reached_xor, reached_same}
 use borrow.Author.Rules.{rules}
 use Rattle.walks.proofs.gate_reached.Statement.{statement}
 use Rattle.walks.proofs.gate_reached.Tie as tie
@@ -16,8 +16,8 @@ start c = c.before.before.before.before.before
 
 -- the first k sources of the row
 row : (b : tie.Start) (k : ℕ) → k ≤ 6 → let a = b.args in
-    ((signalCount a.n ≤ signalLimit) × (length a.changed.now ≡ inputRoom) × (length a.marks.now ≡ signalLimit))
-    × ((rowLength * a.x + 1 + k ≤ length a.table.now) × NumbersFit a.n a.table.now (rowLength * a.x + 1) k)
+    ((signal_count a.n ≤ signal_limit) × (length a.changed.now ≡ input_room) × (length a.marks.now ≡ signal_limit))
+    × ((row_length * a.x + 1 + k ≤ length a.table.now) × NumbersFit a.n a.table.now (row_length * a.x + 1) k)
 row b k h = ((b.requires.0.0.0, b.requires.1.0, b.requires.1.1), (omega (arith, b.requires.0), λ j l. b.requires.0.2 j (omega arith)))
 
 mul_at : tie.Need-overflow-mul-at
@@ -30,7 +30,7 @@ shared-slice-read-head : tie.Need-shared-slice-read-head
 shared-slice-read-head c = search rules
 
 cast-head : tie.Need-overflow-cast-head
-cast-head c = omega (arith, c.shared-slice-known5.given (rowLength * (start c).args.x))
+cast-head c = omega (arith, c.shared-slice-known5.given (row_length * (start c).args.x))
 
 mul-if1 : tie.Need-overflow-mul-if1
 mul-if1 c = search rules
@@ -46,7 +46,7 @@ any-reached-requires c κs = search rules
 
 returns : tie.Need-returns
 returns c =
-    or-both c.any-reached.ensures c.before.is-marked.ensures ∙ reached-lut _ _ _ _ _ _ c.before.before.if1.true
+    or_both c.any-reached.ensures c.before.is-marked.ensures ∙ reached_lut _ _ _ _ _ _ c.before.before.if1.true
 
 mul-if2 : tie.Need-overflow-mul-if2
 mul-if2 c = search rules
@@ -60,9 +60,9 @@ sub-is-marked c = search rules
 is-marked-requires-2 : tie.Need-is-marked-requires-2
 is-marked-requires-2 c κs = search rules
 
-returns-2 : tie.Need-returns-2
-returns-2 c =
-    c.is-marked2.ensures ∙ reached-zero _ _ _ _ _ _ c.before.before.if1.false c.before.if2.true
+returns_2 : tie.Need-returns-2
+returns_2 c =
+    c.is-marked2.ensures ∙ reached_zero _ _ _ _ _ _ c.before.before.if1.false c.before.if2.true
 
 mul-if3 : tie.Need-overflow-mul-if3
 mul-if3 c = search rules
@@ -73,10 +73,10 @@ add-any-reached-2 c = search rules
 any-reached-requires-2 : tie.Need-any-reached-requires-2
 any-reached-requires-2 c κs = row c.before.before.before.before.before.before.before.before 3 (omega arith)
 
-returns-3 : tie.Need-returns-3
-returns-3 c =
+returns_3 : tie.Need-returns-3
+returns_3 c =
     let e = c.before.before in
-    c.any-reached2.ensures ∙ reached-select _ _ _ _ _ _ e.before.if1.false e.if2.false c.before.if3.true
+    c.any-reached2.ensures ∙ reached_select _ _ _ _ _ _ e.before.if1.false e.if2.false c.before.if3.true
 
 mul-if4 : tie.Need-overflow-mul-if4
 mul-if4 c = search rules
@@ -94,7 +94,7 @@ returns-4 : tie.Need-returns-4
 returns-4 c =
     let t = c.before.before in
     let e = t.before in
-    c.any-reached3.ensures ∙ reached-xor _ _ _ _ _ _ e.before.if1.false e.if2.false t.if3.false c.before.if4.true
+    c.any-reached3.ensures ∙ reached_xor _ _ _ _ _ _ e.before.if1.false e.if2.false t.if3.false c.before.if4.true
 
 mul-if5 : tie.Need-overflow-mul-if5
 mul-if5 c = search rules
@@ -114,7 +114,7 @@ shared-slice-read-number-reached c = search rules
 number-reached-requires : tie.Need-number-reached-requires
 number-reached-requires c κs =
     let b = c.before.before.before.before.before.before.before.before.before.before.before in
-    let first : rowLength * b.args.x + 1 + 0 ≡ rowLength * b.args.x + 1 = omega arith in
+    let first : row_length * b.args.x + 1 + 0 ≡ row_length * b.args.x + 1 = omega arith in
     ((b.requires.0.0.0, b.requires.1.0, b.requires.1.1), rw first at (b.requires.0.2 0 (omega arith)))
 
 returns-5 : tie.Need-returns-5
@@ -122,16 +122,16 @@ returns-5 c =
     let f = c.before.before.before in
     let e = f.before.before in
     c.number-reached.ensures
-    ∙ reached-same _ _ _ _ _ _ e.before.if1.false e.if2.false f.before.if3.false f.if4.false c.before.before.if5.true
+    ∙ reached_same _ _ _ _ _ _ e.before.if1.false e.if2.false f.before.if3.false f.if4.false c.before.before.if5.true
 
 returns-6 : tie.Need-returns-6
 returns-6 c =
     let f = c.before in
     let e = f.before.before in
-    reached-stored _ _ _ _ _ _ e.before.if1.false e.if2.false f.before.if3.false f.if4.false c.if5.false
+    reached_stored _ _ _ _ _ _ e.before.if1.false e.if2.false f.before.if3.false f.if4.false c.if5.false
 
-pub gate-reached-spec : {M : Type 1} → statement M
-gate-reached-spec =
+pub gate_reached_spec : {M : Type 1} → statement M
+gate_reached_spec =
     tie.close
     (tie.spec
     mul_at
@@ -147,11 +147,11 @@ gate-reached-spec =
     mul-is-marked
     sub-is-marked
     is-marked-requires-2
-    returns-2
+    returns_2
     mul-if3
     add-any-reached-2
     any-reached-requires-2
-    returns-3
+    returns_3
     mul-if4
     add-if4
     add-any-reached-3

@@ -10,8 +10,8 @@ shared-slice-read-result c = search rules
 returns : tie.Need-returns
 returns c = search rules
 
-returns-2 : tie.Need-returns-2
-returns-2 c = rw (get_or-eq_default _ _ c.if1.false)
+returns_2 : tie.Need-returns-2
+returns_2 c = rw (get_or-eq_default _ _ c.if1.false)
 
-pub is-marked-spec : {M : Type 1} → statement M
-is-marked-spec = tie.close (tie.spec shared-slice-read-result returns returns-2)
+pub is_marked_spec : {M : Type 1} → statement M
+is_marked_spec = tie.close (tie.spec shared-slice-read-result returns returns_2)

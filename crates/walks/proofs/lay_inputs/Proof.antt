@@ -3,7 +3,7 @@ use mathlib.Core.Path.{◌∙◌}
 use native.Mathlib.Omega.{arith}
 use borrow.Author.Rules.{rules}
 use lib.ListN.{set, length-set}
-use Rattle.walks.proofs.Laying.{laid-inputs}
+use Rattle.walks.proofs.Laying.{laid_inputs}
 use Rattle.walks.proofs.lay_inputs.Statement.{statement}
 use Rattle.walks.proofs.lay_inputs.Tie as tie
 
@@ -32,10 +32,10 @@ same_length c =
 returns : tie.Need-returns
 returns c =
     let b = c.before.before.before.before.before.before in
-    laid-inputs b.args.n b.args.inputs.now b.args.wires.now _ b.requires.0.1 b.requires.1.0 b.requires.1.1 c.before.before.copy-to.ensures
+    laid_inputs b.args.n b.args.inputs.now b.args.wires.now _ b.requires.0.1 b.requires.1.0 b.requires.1.1 c.before.before.copy-to.ensures
 
-pub lay-inputs-spec : {M : Type 1} → statement M
-lay-inputs-spec =
+pub lay_inputs_spec : {M : Type 1} → statement M
+lay_inputs_spec =
     tie.close
     (tie.spec
     slice-write-wires

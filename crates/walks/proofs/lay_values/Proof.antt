@@ -1,6 +1,6 @@
 -- `walks::lay_values` meets its contract. Assumes nothing.
 use borrow.Author.Rules.{rules}
-use Rattle.walks.proofs.Laying.{laid-values}
+use Rattle.walks.proofs.Laying.{laid_values}
 use Rattle.walks.proofs.lay_values.Statement.{statement}
 use Rattle.walks.proofs.lay_values.Tie as tie
 
@@ -13,7 +13,7 @@ same_length c = search rules
 returns : tie.Need-returns
 returns c =
     let b = c.before.before.before.before.before.before in
-    laid-values b.requires.3 b.requires.1 b.requires.2 c.before.before.copy-to.ensures
+    laid_values b.requires.3 b.requires.1 b.requires.2 c.before.before.copy-to.ensures
 
-pub lay-values-spec : {M : Type 1} → statement M
-lay-values-spec = tie.close (tie.spec copy-to-requires same_length returns)
+pub lay_values_spec : {M : Type 1} → statement M
+lay_values_spec = tie.close (tie.spec copy-to-requires same_length returns)

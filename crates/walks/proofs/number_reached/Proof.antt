@@ -1,6 +1,6 @@
 -- `walks::number_reached` meets its contract. Assumes nothing.
 use borrow.Author.Rules.{rules}
-use Rattle.walks.proofs.Reached.{number-tests}
+use Rattle.walks.proofs.Reached.{number_tests}
 use Rattle.walks.proofs.number_reached.Statement.{statement}
 use Rattle.walks.proofs.number_reached.Tie as tie
 
@@ -25,10 +25,10 @@ shared-slice-read-change c = search rules
 returns : tie.Need-returns
 returns c =
     let b = c.before.before.before.before.before.before in
-    rw (c.before.before.before.past.ensures, c.before.past2.ensures) (number-tests b.args.n b.args.changed.now b.args.marks.now b.args.number b.requires.0.0)
+    rw (c.before.before.before.past.ensures, c.before.past2.ensures) (number_tests b.args.n b.args.changed.now b.args.marks.now b.args.number b.requires.0.0)
 
-pub number-reached-spec : {M : Type 1} → statement M
-number-reached-spec =
+pub number_reached_spec : {M : Type 1} → statement M
+number_reached_spec =
     tie.close
     (tie.spec
     mul-first-input

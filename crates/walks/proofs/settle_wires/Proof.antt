@@ -5,12 +5,12 @@ use native.Mathlib.Omega.{arith}
 use borrow.Author.Rules.{rules}
 use lib.ListN.{length}
 use Rattle.netlist.specs.Rule.{env}
-use Rattle.netlist.specs.Table.{gateOf}
-use Rattle.netlist.specs.Wires.{valuesOn, inputsOn}
+use Rattle.netlist.specs.Table.{gate_of}
+use Rattle.netlist.specs.Wires.{values_on, inputs_on}
 use Rattle.netlist.specs.Invariant.{SettledTo}
 use Rattle.walks.specs.Walks.{StillWires}
-use Rattle.walks.proofs.Laying.{flops-now}
-use Rattle.walks.proofs.Turns.{turn, turn-wires, set-still, settle-turn, settle-start, settle-end}
+use Rattle.walks.proofs.Laying.{flops_now}
+use Rattle.walks.proofs.Turns.{turn, turn_wires, set_still, settle_turn, settle_start, settle_end}
 use Rattle.walks.proofs.settle_wires.Statement.{statement}
 use Rattle.walks.proofs.settle_wires.Tie as tie
 
@@ -19,7 +19,7 @@ invariant-loop table n m order contents flops wires₀ i₀ wires i =
     (8 * n ≤ i)
     × (i ≤ length order)
     × StillWires n m wires₀ wires
-    × SettledTo (gateOf table n) (env contents flops (inputsOn n wires₀)) order i (valuesOn n wires)
+    × SettledTo (gate_of table n) (env contents flops (inputs_on n wires₀)) order i (values_on n wires)
 
 abbrev decreases-loop : tie.decreases-loop
 decreases-loop table n m order contents flops wires₀ i₀ wires i = length order - i
@@ -36,8 +36,8 @@ mul-i c = search rules
 loop-holds : tie.Need-loop-init invariant-loop decreases-loop
 loop-holds c =
     let b = c.before.before.before.before.before.before.before.before.before in
-    let on = flops-now c.before.before.spread-flops.ensures in
-    (search rules, omega (arith, b.requires.0.ordered.size), on.still, settle-start b.requires.0 _ _ on.still _ on)
+    let on = flops_now c.before.before.spread-flops.ensures in
+    (search rules, omega (arith, b.requires.0.ordered.size), on.still, settle_start b.requires.0 _ _ on.still _ on)
 
 mul-x : tie.Need-overflow-mul-x invariant-loop decreases-loop
 mul-x c = search rules
@@ -54,7 +54,7 @@ gate-value-requires c κs =
     let k = (start l).requires.0 in
     let t = turn k l.loop.i l.loop.invariant.0 (search rules) in
     let w = l.loop.invariant.2.wires in
-    ((k.sized, t.1, t.2), (turn-wires k w _ t.1, w.bits))
+    ((k.sized, t.1, t.2), (turn_wires k w _ t.1, w.bits))
 
 add-wires : tie.Need-overflow-add-wires invariant-loop decreases-loop
 add-wires c = let l = c.before.before.before.before in omega (arith, turn (start l).requires.0 l.loop.i l.loop.invariant.0 (search rules), (start l).requires.0.sized.0)
@@ -76,7 +76,7 @@ loop-again c =
     let k = (start l).requires.0 in
     let t = turn k l.loop.i l.loop.invariant.0 (search rules) in
     let v = l.loop.invariant in
-    (search rules, search rules, set-still k _ _ v.2 l.loop.i t.0 _ c.gate-value.ensures, settle-turn k _ _ v.2 l.loop.i t.0 _ c.gate-value.ensures _ v.3)
+    (search rules, search rules, set_still k _ _ v.2 l.loop.i t.0 _ c.gate-value.ensures, settle_turn k _ _ v.2 l.loop.i t.0 _ c.gate-value.ensures _ v.3)
 
 same_length : tie.Need-same-length invariant-loop decreases-loop
 same_length c = c.before.loop.invariant.2.wires.size ∙ sym (start c.before).pre.2.size
@@ -89,11 +89,11 @@ returns c =
     let v = l.loop.invariant in
     record {
       still = record { wires = v.2.wires; inputs = v.2.inputs ∙ on.still.inputs };
-      settled = rw on.still.inputs at (settle-end k _ _ v.2 _ l.loop.i (search rules) v.3);
+      settled = rw on.still.inputs at (settle_end k _ _ v.2 _ l.loop.i (search rules) v.3);
     }
 
-pub settle-wires-spec : {M : Type 1} → statement M
-settle-wires-spec =
+pub settle_wires_spec : {M : Type 1} → statement M
+settle_wires_spec =
     tie.close
     (tie.spec
     invariant-loop

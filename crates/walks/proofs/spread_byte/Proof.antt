@@ -5,7 +5,7 @@ use native.Mathlib.Omega.{arith}
 use borrow.Author.Rules.{rules}
 use Rattle.netlist.specs.Rule.{bit_at}
 use Rattle.lent.specs.Put.{Put}
-use Rattle.lent.proofs.Putting.{put-none, put_next}
+use Rattle.lent.proofs.Putting.{put_none, put_next}
 use Rattle.walks.proofs.spread_byte.Statement.{statement}
 use Rattle.walks.proofs.spread_byte.Tie as tie
 
@@ -16,7 +16,7 @@ abbrev decreases-loop : tie.decreases-loop
 decreases-loop wires₀ at byte b₀ wires b = 8 - b
 
 loop-holds : tie.Need-loop-init invariant-loop decreases-loop
-loop-holds c = (search rules, put-none _ _ _)
+loop-holds c = (search rules, put_none _ _ _)
 
 cast-wires : tie.Need-overflow-cast-wires invariant-loop decreases-loop
 cast-wires c = search rules
@@ -48,8 +48,8 @@ returns c =
     let e : l.b ≡ 8 = omega arith in
     rw e at l.invariant.1
 
-pub spread-byte-spec : {M : Type 1} → statement M
-spread-byte-spec =
+pub spread_byte_spec : {M : Type 1} → statement M
+spread_byte_spec =
     tie.close
     (tie.spec
     invariant-loop

@@ -4,7 +4,7 @@ use Prim.Native.Nat.{◌-◌, ◌≤◌}
 use native.Mathlib.Omega.{arith}
 use borrow.Author.Rules.{rules}
 use Rattle.walks.specs.Walks.{FlopsOn}
-use Rattle.walks.proofs.Laying.{flops-none, flops-next}
+use Rattle.walks.proofs.Laying.{flops_none, flops_next}
 use Rattle.walks.proofs.spread_flops.Statement.{statement}
 use Rattle.walks.proofs.spread_flops.Tie as tie
 
@@ -15,7 +15,7 @@ abbrev decreases-loop : tie.decreases-loop
 decreases-loop flops n m wires₀ s₀ wires s = n - s
 
 loop-holds : tie.Need-loop-init invariant-loop decreases-loop
-loop-holds c = (search rules, flops-none _ c.before.before.requires.2)
+loop-holds c = (search rules, flops_none _ c.before.before.requires.2)
 
 mul-spread-byte : tie.Need-overflow-mul-spread-byte invariant-loop decreases-loop
 mul-spread-byte c = search rules
@@ -41,7 +41,7 @@ loop-less c = search rules
 loop-again : tie.Need-loop-preserved invariant-loop decreases-loop
 loop-again c =
     let l = c.before.before.before.before.before.before.loop in
-    (search rules, flops-next _ l.s (search rules) l.invariant.1 c.before.before.spread-byte.ensures)
+    (search rules, flops_next _ l.s (search rules) l.invariant.1 c.before.before.spread-byte.ensures)
 
 same_length : tie.Need-same-length invariant-loop decreases-loop
 same_length c = c.before.loop.invariant.1.still.wires.size ∙ sym c.before.before.before.before.requires.2.size
@@ -52,8 +52,8 @@ returns c =
     let e : l.s ≡ c.before.before.before.before.args.n = omega arith in
     rw e at l.invariant.1
 
-pub spread-flops-spec : {M : Type 1} → statement M
-spread-flops-spec =
+pub spread_flops_spec : {M : Type 1} → statement M
+spread_flops_spec =
     tie.close
     (tie.spec
     invariant-loop
