@@ -1,6 +1,7 @@
 // The buffers and arguments lent to a call: refusals 10 and 11. What the file says of them, its tables' kinds, stands among the numbers of its plan.
+#![tactic(auto)]
+
 ghost use Rattle.std.specs.Prelude.{◌≡◌, ◌*◌, ◌<◌, ◌≤◌, length};
-ghost use Rattle.lent.specs.Lent.{was};
 ghost use Rattle.slicefile.specs.Format.{slice_limit};
 ghost use Rattle.clocknumbers.specs.Numbers.{edge_length};
 ghost use Rattle.column.specs.Clock.{state_was};
@@ -27,14 +28,14 @@ fn bad_lengths(
     values: &[u8],
 ) -> bool
     requires { n ≤ slice_limit }
-    ensures { result ≡ bad_lengths n m (state_was contents flops) (was inputs) (was values) }
+    ensures { result ≡ bad_lengths n m (state_was contents flops) inputs.now values.now }
 {
     bad_state(n, contents, flops) | (inputs.len() != m) | (values.len() != SLICE_SIGNALS * n)
 }
 
 // Whether a byte is neither 0 nor 1.
 fn bad_bytes(bytes: &[u8]) -> bool
-    ensures { result ≡ bad_bytes (was bytes) }
+    ensures { result ≡ bad_bytes bytes.now }
 {
     let mut found = false;
     let mut i = 0;
@@ -48,7 +49,7 @@ fn bad_bytes(bytes: &[u8]) -> bool
 // Whether a word has bits 32 to 63 set while table t is in shift mode, by the kinds among the edges' numbers of n slices.
 fn bad_word(edges: &[u16], n: usize, t: usize, word: u64) -> bool
     requires { (n ≤ slice_limit) × (length edges.now ≡ edge_length * n) × (t < 4 * n) }
-    ensures { result ≡ bad_word_by (was edges) t word }
+    ensures { result ≡ bad_word_by edges.now t word }
 {
     let kind = edges[EDGE_LENGTH * (t / 4) + KINDS + t % 4];
     (2 <= kind) & (4294967296 <= word)
@@ -57,7 +58,7 @@ fn bad_word(edges: &[u16], n: usize, t: usize, word: u64) -> bool
 // Whether any word does.
 fn bad_words(edges: &[u16], n: usize, contents: &[u64]) -> bool
     requires { (n ≤ slice_limit) × (length edges.now ≡ edge_length * n) × (length contents.now ≡ 4 * n) }
-    ensures { result ≡ bad_words_by (was edges) (was contents) }
+    ensures { result ≡ bad_words_by edges.now contents.now }
 {
     let mut found = false;
     let mut t = 0;
@@ -71,7 +72,7 @@ fn bad_words(edges: &[u16], n: usize, contents: &[u64]) -> bool
 // Whether a table is not there, or its mode does not allow the word.
 pub fn bad_table(edges: &[u16], n: usize, table: usize, word: u64) -> bool
     requires { (n ≤ slice_limit) × (length edges.now ≡ edge_length * n) }
-    ensures { result ≡ bad_table_by (was edges) n table word }
+    ensures { result ≡ bad_table_by edges.now n table word }
 {
     if 4 * n <= table {
         return true;
@@ -90,7 +91,7 @@ pub fn settle_refusal(
     values: &[u8],
 ) -> usize
     requires { (n ≤ slice_limit) × (length edges.now ≡ edge_length * n) }
-    ensures { result ≡ settle_refusal_by (bad_words_by (was edges) (was contents)) (state_was contents flops) (was inputs) (was values) n m }
+    ensures { result ≡ settle_refusal_by (bad_words_by edges.now contents.now) (state_was contents flops) inputs.now values.now n m }
 {
     if bad_lengths(n, m, contents, flops, inputs, values) {
         return 10;
@@ -115,7 +116,7 @@ pub fn edit_refusal(
     values: &[u8],
 ) -> usize
     requires { (n ≤ slice_limit) × (length edges.now ≡ edge_length * n) }
-    ensures { result ≡ edit_refusal_by bad (bad_words_by (was edges) (was contents)) (state_was contents flops) (was inputs) (was values) n m }
+    ensures { result ≡ edit_refusal_by bad (bad_words_by edges.now contents.now) (state_was contents flops) inputs.now values.now n m }
 {
     let number = settle_refusal(edges, n, m, contents, flops, inputs, values);
     if number != 0 {

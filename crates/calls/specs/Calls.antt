@@ -1,7 +1,7 @@
 -- What the calls on a file answer and leave. "Every call but the record ones takes the file and judges it first: a refused file makes the
 -- call give the same number and place"; its own refusals, 10 and 11, have place 0; "a refusal writes nothing".
 use Rattle.std.specs.Prelude.{ℕ, suc, ◌≡◌, List}
-use Rattle.lent.specs.Lent.{Lent, was}
+use Rattle.lent.specs.Lent.{Lent, Shown, shown}
 use Rattle.slicefile.specs.declared.Answer.{Answer}
 use Rattle.slicefile.specs.declared.Answer.TheVariants.{Refused as AnswerRefused, Done}
 use Rattle.rules.specs.Rules.{given}
@@ -32,5 +32,5 @@ abbrev pub PoweredUp : List ℕ → State → State → Answer → Type 0
 PoweredUp file old new = Called file (λ n m. given 10 (bad_state n old)) (new ≡ old) (λ n m. new ≡ power_up file)
 
 -- the same on lent buffers, as they were and as they are left
-abbrev pub PowersUp : Lent → Lent → Lent → Answer → Type 0
-PowersUp file contents flops = PoweredUp (was file) (state_was contents flops) (state_left contents flops)
+abbrev pub PowersUp : Shown → Lent → Lent → Answer → Type 0
+PowersUp file contents flops = PoweredUp (shown file) (state_was contents flops) (state_left contents flops)

@@ -1,6 +1,7 @@
 // How a call on a slice file goes: the file is judged first, and its refusal is handed on. And the first of the calls, power up.
+#![tactic(auto)]
+
 ghost use Rattle.std.specs.Prelude.{◌≡◌, ◌*◌, length};
-ghost use Rattle.lent.specs.Lent.{was, left};
 ghost use Rattle.column.specs.Check.{IsSound};
 ghost use Rattle.column.specs.Clock.{power_up};
 ghost use Rattle.column.specs.Judge.{Judged};
@@ -22,7 +23,7 @@ pub fn refusal(v: Verdict) -> Answer
 // Fills the contents with those of a sound file.
 fn fill_contents(file: &[u8], n: usize, m: usize, contents: &mut [u64])
     requires { IsSound file.now n m × (length contents.old ≡ 4 * n) }
-    ensures { left contents ≡ (power_up (was file)).contents }
+    ensures { contents.new ≡ (power_up file.now).contents }
 {
     let mut t = 0;
     while t < 4 * n {
@@ -35,7 +36,7 @@ fn fill_contents(file: &[u8], n: usize, m: usize, contents: &mut [u64])
 // Fills the flip-flops with the power-up bits of a sound file.
 fn fill_flops(file: &[u8], n: usize, m: usize, flops: &mut [u8])
     requires { IsSound file.now n m × (length flops.old ≡ n) }
-    ensures { left flops ≡ (power_up (was file)).flops }
+    ensures { flops.new ≡ (power_up file.now).flops }
 {
     let mut s = 0;
     while s < n {

@@ -1,4 +1,6 @@
 // Runs the paper's worked cases on files of one slice, and writes what settles, what the clock leaves and what is refused, a line a case.
+#![tactic(auto)]
+
 ghost use Rattle.std.specs.Prelude.{◌<◌, ◌≤◌};
 ghost use Rattle.slicefile.specs.Format.{slice_tag, body_length, pin_count};
 
@@ -31,7 +33,7 @@ const D_END: usize = D1 + CODE * TABLE_PINS;
 const DX_PIN: usize = BYPASS_PIN + 3;
 
 // What clocks leave: table D's word and the flip-flop byte.
-#[derive(Drop)]
+#[derive(Clone, Copy)]
 struct Left {
     word: u64,
     flops: u8,

@@ -1,7 +1,8 @@
 // One clock edge, from the plain numbers of the slices: what it does to their flip-flop bytes and contents words. The numbers of sources are wires,
 // on which the table settled before the edge stands.
+#![tactic(auto)]
+
 ghost use Rattle.std.specs.Prelude.{◌≡◌, ◌+◌, ◌*◌, ◌<◌, ◌≤◌, length, get_or, set};
-ghost use Rattle.lent.specs.Lent.{was, left};
 ghost use Rattle.netlist.specs.Rule.{bit_at};
 ghost use Rattle.series7.specs.Edge.{with_bit, shifted};
 ghost use Rattle.slicefile.specs.Format.{slice_limit};
@@ -13,7 +14,7 @@ use clocknumbers::{ADDRESS, DATA, EDGE_LENGTH, ENABLE, FLOPS, KINDS, RESET, VALU
 // The flip-flop byte of a slice after the edge.
 fn next_flops(edge: &[u16], wires: &[u8], old: u8) -> u8
     requires { EdgeFits wires.now edge.now }
-    ensures { result ≡ flops_by (was wires) (was edge) old }
+    ensures { result ≡ flops_by wires.now edge.now old }
 {
     let reset = evaluation::wire(wires, edge[RESET]);
     if reset == 1 {
@@ -53,7 +54,7 @@ fn bit_31(word: u64) -> u8
 // Letter l's word after the edge; `next` is the next letter's word before it.
 fn next_word(edge: &[u16], l: usize, wires: &[u8], old: u64, next: u64) -> u64
     requires { EdgeFits wires.now edge.now × (l < 4) }
-    ensures { result ≡ word_by (was wires) (was edge) l old next }
+    ensures { result ≡ word_by wires.now edge.now l old next }
 {
     let enable = evaluation::wire(wires, edge[WRITE]);
     if enable != 1 {
@@ -75,7 +76,7 @@ fn next_word(edge: &[u16], l: usize, wires: &[u8], old: u64, next: u64) -> u64
 }
 
 fn word_at(contents: &[u64], i: usize) -> u64
-    ensures { result ≡ get_or (was contents) i 0 }
+    ensures { result ≡ get_or contents.now i 0 }
 {
     if i < contents.len() { contents[i] } else { 0 }
 }
@@ -83,7 +84,7 @@ fn word_at(contents: &[u64], i: usize) -> u64
 // Moves the words of slice s, ascending, so that each letter still sees the next one's word before the edge.
 fn move_words(edge: &[u16], s: usize, wires: &[u8], contents: &mut [u64])
     requires { EdgeFits wires.now edge.now × (4 * s + 4 ≤ length contents.old) }
-    ensures { Moved (was wires) (was edge) s 4 (was contents) (left contents) }
+    ensures { Moved wires.now edge.now s 4 contents.old contents.new }
 {
     let mut l = 0;
     while l < 4 {
@@ -98,8 +99,8 @@ fn move_words(edge: &[u16], s: usize, wires: &[u8], contents: &mut [u64])
 // Moves slice s: its contents words and its flip-flop byte.
 fn move_slice(edge: &[u16], s: usize, wires: &[u8], contents: &mut [u64], flops: &mut [u8])
     requires { EdgeFits wires.now edge.now × (4 * s + 4 ≤ length contents.old) × (s < length flops.old) }
-    ensures moved { Moved (was wires) (was edge) s 4 (was contents) (left contents) }
-    ensures flops_value { left flops ≡ set (was flops) s (flops_by (was wires) (was edge) (get_or (was flops) s 0)) }
+    ensures moved { Moved wires.now edge.now s 4 contents.old contents.new }
+    ensures flops_value { flops.new ≡ set flops.old s (flops_by wires.now edge.now (get_or flops.old s 0)) }
 {
     move_words(edge, s, wires, contents);
     let byte = next_flops(edge, wires, flops[s]);
@@ -110,8 +111,8 @@ fn move_slice(edge: &[u16], s: usize, wires: &[u8], contents: &mut [u64], flops:
 pub fn move_all(edges: &[u16], n: usize, wires: &[u8], contents: &mut [u64], flops: &mut [u8])
     requires n_le_slice_limit { (n ≤ slice_limit) × EdgesFit n wires.now edges.now }
     requires contents_len { (length contents.old ≡ 4 * n) × (length flops.old ≡ n) }
-    ensures contents_value { left contents ≡ words_by (was wires) (was edges) n (was contents) }
-    ensures flops_value { left flops ≡ bytes_by (was wires) (was edges) n (was flops) }
+    ensures contents_value { contents.new ≡ words_by wires.now edges.now n contents.old }
+    ensures flops_value { flops.new ≡ bytes_by wires.now edges.now n flops.old }
 {
     let mut s = 0;
     while s < n {

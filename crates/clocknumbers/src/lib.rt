@@ -1,6 +1,7 @@
 // The plain numbers of a slice's clock edge, of the 7 series.
+#![tactic(auto)]
+
 ghost use Rattle.std.specs.Prelude.{◌≡◌, ◌<◌, ◌≤◌};
-ghost use Rattle.lent.specs.Lent.{was};
 ghost use Rattle.netlist.specs.Table.{code_of, input_room};
 ghost use Rattle.slicefile.specs.Format.{slice_limit, HoldsSlice};
 ghost use Rattle.series7.specs.Edge.{main_source, second_source, flop_source};
@@ -38,7 +39,7 @@ pub const EDGE_LENGTH: usize = 27;
 // The set/reset pin, where it is used.
 fn reset_code(n: usize, m: usize, body: &[u8]) -> u16
     requires { HoldsSlice body.now × (n ≤ slice_limit) × (m ≤ input_room) }
-    ensures { result ≡ reset_code n m (was body) }
+    ensures { result ≡ reset_code n m body.now }
 {
     if body[SET_RESET_USED] == 1 {
         return sources::pin_number(n, m, body, SR_PIN);
@@ -49,7 +50,7 @@ fn reset_code(n: usize, m: usize, body: &[u8]) -> u16
 // Pin i of D's table, where D is in memory mode.
 fn address_code(n: usize, m: usize, body: &[u8], i: usize) -> u16
     requires { HoldsSlice body.now × (n ≤ slice_limit) × (m ≤ input_room) × (i < 6) }
-    ensures { result ≡ address_code n m (was body) i }
+    ensures { result ≡ address_code n m body.now i }
 {
     if body[MODE_D] == 1 {
         return sources::pin_number(n, m, body, PINS_D + i);
@@ -60,7 +61,7 @@ fn address_code(n: usize, m: usize, body: &[u8], i: usize) -> u16
 // What the main flip-flop of a letter takes.
 fn main_code(n: usize, m: usize, s: usize, body: &[u8], l: usize) -> u16
     requires { HoldsSlice body.now × (n ≤ slice_limit) × (m ≤ input_room) × (s < n) × (l < 4) }
-    ensures { result ≡ code_of n (main_source n m s (was body) l) }
+    ensures { result ≡ code_of n (main_source n m s body.now l) }
 {
     let choice = body[MAIN + l];
     if choice == 0 {
@@ -87,7 +88,7 @@ fn main_code(n: usize, m: usize, s: usize, body: &[u8], l: usize) -> u16
 // What the second flip-flop of a letter takes.
 fn second_code(n: usize, m: usize, s: usize, body: &[u8], l: usize) -> u16
     requires { HoldsSlice body.now × (n ≤ slice_limit) × (m ≤ input_room) × (s < n) × (l < 4) }
-    ensures { result ≡ code_of n (second_source n m s (was body) l) }
+    ensures { result ≡ code_of n (second_source n m s body.now l) }
 {
     if body[SECOND + l] == 0 {
         return sources::own_number(s, O5_SIGNAL + l);
@@ -98,7 +99,7 @@ fn second_code(n: usize, m: usize, s: usize, body: &[u8], l: usize) -> u16
 // What bit b of the flip-flop byte takes.
 fn flop_code(n: usize, m: usize, s: usize, body: &[u8], b: usize) -> u16
     requires { HoldsSlice body.now × (n ≤ slice_limit) × (m ≤ input_room) × (s < n) × (b < 8) }
-    ensures { result ≡ code_of n (flop_source n m s (was body) b) }
+    ensures { result ≡ code_of n (flop_source n m s body.now b) }
 {
     if b < 4 {
         return main_code(n, m, s, body, b);
@@ -109,7 +110,7 @@ fn flop_code(n: usize, m: usize, s: usize, body: &[u8], b: usize) -> u16
 // A table's kind: 0 logic, 1 memory, 2 shift, 3 shift from the next letter.
 fn table_kind(body: &[u8], l: usize) -> u16
     requires { HoldsSlice body.now × (l < 4) }
-    ensures { result ≡ table_kind (was body) l }
+    ensures { result ≡ table_kind body.now l }
 {
     let mode = body[MODE + l];
     if mode == 0 {
@@ -127,7 +128,7 @@ fn table_kind(body: &[u8], l: usize) -> u16
 // A letter's bypass pin, where its table writes it.
 fn data_code(n: usize, m: usize, body: &[u8], l: usize) -> u16
     requires { HoldsSlice body.now × (n ≤ slice_limit) × (m ≤ input_room) × (l < 4) }
-    ensures { result ≡ data_code n m (was body) l }
+    ensures { result ≡ data_code n m body.now l }
 {
     let kind = table_kind(body, l);
     if kind == 0 {
@@ -142,7 +143,7 @@ fn data_code(n: usize, m: usize, body: &[u8], l: usize) -> u16
 // Number k of a slice's edge.
 fn edge_number(n: usize, m: usize, s: usize, body: &[u8], k: usize) -> u16
     requires { HoldsSlice body.now × (n ≤ slice_limit) × (m ≤ input_room) × (s < n) }
-    ensures { result ≡ edge_number n m s (was body) k }
+    ensures { result ≡ edge_number n m s body.now k }
 {
     if k == ENABLE {
         return sources::pin_number(n, m, body, CE_PIN);
@@ -174,7 +175,7 @@ fn edge_number(n: usize, m: usize, s: usize, body: &[u8], k: usize) -> u16
 // The numbers of the edge of slice s, whose record has that body, in a file of n slices and m outside inputs.
 pub fn edge_of(n: usize, m: usize, s: usize, body: &[u8]) -> [u16; EDGE_LENGTH]
     requires { HoldsSlice body.now × (n ≤ slice_limit) × (m ≤ input_room) × (s < n) }
-    ensures { result ≡ edge_numbers n m s (was body) }
+    ensures { result ≡ edge_numbers n m s body.now }
 {
     let mut edge = [0u16; EDGE_LENGTH];
     let mut k = 0;

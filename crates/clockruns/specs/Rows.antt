@@ -1,6 +1,6 @@
 -- What clocks in a row answer and leave. Their inputs stand one clock after the other, m bytes each.
 use Rattle.std.specs.Prelude.{ℕ, zero, suc, ◌*◌, ◌/◌, ◌≡◌, List, length, take, drop}
-use Rattle.lent.specs.Lent.{Lent, was, left}
+use Rattle.lent.specs.Lent.{Lent, Shown, was, left, shown}
 use Rattle.slicefile.specs.declared.Answer.{Answer}
 use Rattle.column.specs.Clock.{State, state_was, state_left, Run}
 use Rattle.plan.specs.Plan.{Ready}
@@ -43,6 +43,6 @@ RowPlanned plan n m st moved inputs old new =
     (RanPlan plan n m (clock_count inputs m) st moved inputs old new)
 
 -- the promise on lent buffers, as they were and as they are left
-abbrev pub RunsRow : Lent → Lent → Lent → Lent → Lent → Answer → Type 0
+abbrev pub RunsRow : Shown → Lent → Lent → Shown → Lent → Answer → Type 0
 RunsRow file contents flops inputs values =
-    RowCalled (was file) (state_was contents flops) (state_left contents flops) (was inputs) (was values) (left values)
+    RowCalled (shown file) (state_was contents flops) (state_left contents flops) (shown inputs) (was values) (left values)

@@ -1,6 +1,7 @@
 // Clocks in a row over one loaded plan, to be timed. No part of the library, whose packing of answers it uses.
+#![tactic(auto)]
+
 ghost use Rattle.std.specs.Prelude.{◌≡◌, ◌*◌, length};
-ghost use Rattle.lent.specs.Lent.{was, left};
 ghost use Rattle.netlist.specs.Table.{signal_count, wire_count};
 ghost use Rattle.evaluation.specs.Numbers.{Bits};
 ghost use Rattle.column.specs.Clock.{state_was, state_left};
@@ -15,7 +16,7 @@ use slicefile::Answer;
 
 // How many clocks the inputs are for, m bytes each.
 fn clock_count(inputs: &[u8], m: usize) -> usize
-    ensures { result ≡ clock_count (was inputs) m }
+    ensures { result ≡ clock_count inputs.now m }
 {
     if m == 0 {
         return 0;
@@ -38,7 +39,7 @@ fn run_clocks(
     requires runnable { Runnable n m plan.now × (length wires.old ≡ wire_count n m) × Bits wires.old }
     requires contents_len { (length contents.old ≡ 4 * n) × (length flops.old ≡ n) × (length values.old ≡ signal_count n) }
     requires inputs_len { (length inputs.now ≡ m * k) × Bits inputs.now }
-    ensures { RanPlan (was plan) n m k (state_was contents flops) (state_left contents flops) (was inputs) (was values) (left values) }
+    ensures { RanPlan plan.now n m k (state_was contents flops) (state_left contents flops) inputs.now values.old values.new }
 {
     let mut i = 0;
     while i < k {
@@ -60,7 +61,7 @@ fn row_planned(
     wires: &mut [u8],
 ) -> Answer
     requires { Runnable n m plan.now × (length wires.old ≡ wire_count n m) × Bits wires.old }
-    ensures { RowPlanned (was plan) n m (state_was contents flops) (state_left contents flops) (was inputs) (was values) (left values) result }
+    ensures { RowPlanned plan.now n m (state_was contents flops) (state_left contents flops) inputs.now values.old values.new result }
 {
     let k = clock_count(inputs, m);
     let edges = plan::edges(plan, n);

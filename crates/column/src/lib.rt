@@ -1,6 +1,7 @@
 // A whole slice file: its records checked, its netlist, and the judge.
+#![tactic(auto)]
+
 ghost use Rattle.std.specs.Prelude.{◌≡◌, ◌+◌, ◌*◌, ◌≤◌, ◌<◌, ◌^◌, length};
-ghost use Rattle.lent.specs.Lent.{was, left};
 ghost use Rattle.column.specs.File.{slice_body};
 ghost use Rattle.slicefile.specs.Format.{slice_limit};
 ghost use Rattle.column.specs.Check.{check_end, check_file, check_from, passed_from, IsSound};
@@ -21,21 +22,21 @@ pub const FILE_LIMIT: usize = SIZE_RECORD + SLICE_RECORD * SLICE_LIMIT + HEAD;
 pub const TABLE_LIMIT: usize = SLICE_NUMBERS * SLICE_LIMIT;
 
 // What the records say of a file: the number and the place of the first bad record, or n and m.
-#[derive(Drop)]
+#[derive(Clone, Copy)]
 pub enum Checked {
     Bad { number: usize, place: usize },
     Sound { n: usize, m: usize },
 }
 
 // How far a check came: what the records say, and how many slices passed.
-#[derive(Drop)]
+#[derive(Clone, Copy)]
 pub struct Progress {
     pub checked: Checked,
     pub passed: usize,
 }
 
 // The judge's answer: a refusal's number and place, or the slice count and the outside inputs.
-#[derive(Drop)]
+#[derive(Clone, Copy)]
 pub enum Verdict {
     Refused { number: usize, place: usize },
     Accepted { n: usize, m: usize },
@@ -54,7 +55,7 @@ fn stopped(number: usize, place: usize, passed: usize) -> Progress
 // The end record at a place of the file, and that nothing follows it.
 fn check_end(n: usize, m: usize, place: usize, s: &[u8]) -> Checked
     requires { place < 2 ^ 32 }
-    ensures { result ≡ check_end n m place (was s) }
+    ensures { result ≡ check_end n m place s.now }
 {
     if framing::is_end(s) {
         if HEAD < s.len() {
@@ -72,7 +73,7 @@ fn check_end(n: usize, m: usize, place: usize, s: &[u8]) -> Checked
 // Rules 1 to 8 on a whole file, of which some slices passed before.
 pub fn check_from(file: &[u8], passed: usize) -> Progress
     requires { passed ≤ slice_limit }
-    ensures { (result.checked ≡ check_from passed (was file)) × (result.passed ≡ passed_from passed (was file)) }
+    ensures { (result.checked ≡ check_from passed file.now) × (result.passed ≡ passed_from passed file.now) }
 {
     let h = framing::size_refusal(file);
     if h != 0 {
@@ -99,7 +100,7 @@ pub fn check_from(file: &[u8], passed: usize) -> Progress
 
 // Rules 1 to 8 on a whole file.
 pub fn check_file(file: &[u8]) -> Checked
-    ensures { result ≡ check_file (was file) }
+    ensures { result ≡ check_file file.now }
 {
     let progress = check_from(file, 0);
     progress.checked
@@ -108,7 +109,7 @@ pub fn check_file(file: &[u8]) -> Checked
 // The body of slice s of a sound file.
 pub fn slice_body(file: &[u8], n: usize, m: usize, s: usize) -> &[u8]
     requires { IsSound file.now n m × (s < n) }
-    ensures { result.now ≡ slice_body (was file) s }
+    ensures { result.now ≡ slice_body file.now s }
 {
     let at = SIZE_RECORD + SLICE_RECORD * s + HEAD;
     &file[at..at + SLICE_BODY]
@@ -118,7 +119,7 @@ pub fn slice_body(file: &[u8], n: usize, m: usize, s: usize) -> &[u8]
 fn lower_slice(file: &[u8], n: usize, m: usize, s: usize, table: &mut [u16])
     requires sound { IsSound file.now n m × (s < n) × (length table.old ≡ table_length n) }
     requires lowered_to { LoweredTo file.now n table.old (slice_signals * s) }
-    ensures { LoweredTo (was file) n (left table) (slice_signals * s + slice_signals) }
+    ensures { LoweredTo file.now n table.new (slice_signals * s + slice_signals) }
 {
     let body = slice_body(file, n, m, s);
     let pins = sources::pin_numbers(n, m, body);
@@ -133,7 +134,7 @@ fn lower_slice(file: &[u8], n: usize, m: usize, s: usize, table: &mut [u16])
 // Puts the netlist of a sound file into the gate table.
 fn lower(file: &[u8], n: usize, m: usize, table: &mut [u16])
     requires { IsSound file.now n m × (length table.old ≡ table_length n) }
-    ensures { Lowered (was file) n (left table) }
+    ensures { Lowered file.now n table.new }
 {
     let mut s: usize = 0;
     while s < n {
@@ -146,7 +147,7 @@ fn lower(file: &[u8], n: usize, m: usize, table: &mut [u16])
 fn compile(file: &[u8], n: usize, m: usize, table: &mut [u16], order: &mut [u16]) -> Sorted
     requires sound { IsSound file.now n m }
     requires table_len { (length table.old ≡ table_length n) × (length order.old ≡ signal_count n) }
-    ensures { Compiled (was file) n (left table) (left order) result }
+    ensures { Compiled file.now n table.new order.new result }
 {
     lower(file, n, m, table);
     toposort::order_or_loop(table, n, order)
@@ -156,7 +157,7 @@ fn compile(file: &[u8], n: usize, m: usize, table: &mut [u16], order: &mut [u16]
 fn load_sound(file: &[u8], n: usize, m: usize, table: &mut [u16], order: &mut [u16]) -> Verdict
     requires sound { IsSound file.now n m }
     requires table_len { (length table.old ≡ table_limit) × (length order.old ≡ signal_limit) }
-    ensures { Loaded (was file) (left table) (left order) result }
+    ensures { Loaded file.now table.new order.new result }
 {
     let numbers = SLICE_NUMBERS * n;
     let signals = SLICE_SIGNALS * n;
@@ -169,7 +170,7 @@ fn load_sound(file: &[u8], n: usize, m: usize, table: &mut [u16], order: &mut [u
 // Judges any bytes, and leaves what the calls on an accepted file run on: its netlist in the gate table, and an order.
 pub fn load(file: &[u8], table: &mut [u16], order: &mut [u16]) -> Verdict
     requires { (length table.old ≡ table_limit) × (length order.old ≡ signal_limit) }
-    ensures { Loaded (was file) (left table) (left order) result }
+    ensures { Loaded file.now table.new order.new result }
 {
     match check_file(file) {
         Checked::Bad { number, place } => Verdict::Refused { number, place },
@@ -179,7 +180,7 @@ pub fn load(file: &[u8], table: &mut [u16], order: &mut [u16]) -> Verdict
 
 // Judges any bytes.
 pub fn judge(file: &[u8]) -> Verdict
-    ensures { Judged (was file) result }
+    ensures { Judged file.now result }
 {
     let mut table = [0u16; TABLE_LIMIT];
     let mut order = [0u16; SIGNAL_LIMIT];

@@ -1,6 +1,7 @@
 // A lent list of edits, taken apart into words.
+#![tactic(auto)]
+
 ghost use Rattle.std.specs.Prelude.{◌≡◌, ◌<◌, length, get_or};
-ghost use Rattle.lent.specs.Lent.{was, left};
 ghost use Rattle.editlist.specs.Listed.{edit_limit, list_length, none, with_edit, listed_count, Listed};
 
 // The most edits of a list.
@@ -14,7 +15,7 @@ pub const LIST_WORDS: usize = EDIT_WORDS * EDIT_LIMIT;
 
 // An edit as a host lends it: kind 0 sets outside input `number` to `value`, kind 1 the contents of table `number`.
 #[repr(C)]
-#[derive(Drop)]
+#[derive(Clone, Copy)]
 pub struct Edit {
     pub kind: u8,
     pub number: u64,
@@ -31,7 +32,7 @@ fn listed_count(len: usize) -> usize
 // Puts edit i into the words.
 fn put_edit(words: &mut [u64], i: usize, edit: Edit)
     requires { (i < edit_limit) × (length words.old ≡ list_length) }
-    ensures { left words ≡ with_edit (was words) i edit }
+    ensures { words.new ≡ with_edit words.old i edit }
 {
     let at = EDIT_WORDS * i;
     words[at] = edit.kind as u64;
@@ -42,7 +43,7 @@ fn put_edit(words: &mut [u64], i: usize, edit: Edit)
 // Takes edit i apart.
 fn edit_at(edits: &[Edit], i: usize) -> Edit
     requires { i < length edits.now }
-    ensures { result ≡ get_or (was edits) i none }
+    ensures { result ≡ get_or edits.now i none }
 {
     Edit {
         kind: edits[i].kind,
@@ -53,7 +54,7 @@ fn edit_at(edits: &[Edit], i: usize) -> Edit
 
 // The words of a list of edits.
 pub fn list_edits(edits: &[Edit]) -> [u64; LIST_WORDS]
-    ensures { Listed (was edits) (listed_count (length (was edits))) result }
+    ensures { Listed edits.now (listed_count (length edits.now)) result }
 {
     let end = listed_count(edits.len());
     let mut words = [0u64; LIST_WORDS];

@@ -1,7 +1,7 @@
 -- What the edit call answers and leaves. "All are checked first; one bad edit (11) or more than 256 (11) changes nothing. The result is that of
 -- the edits made one after another, the same input twice included."
 use Rattle.std.specs.Prelude.{ℕ, ◌≡◌, Bool, false, ◌||◌, cond, List, [], ◌∷◌, map, eqb, ltb, length}
-use Rattle.lent.specs.Lent.{Lent, was, left}
+use Rattle.lent.specs.Lent.{Lent, Shown, was, left, shown}
 use Rattle.netlist.specs.Rule.{Env, env}
 use Rattle.netlist.specs.Settle.{Edited}
 use Rattle.netlist.specs.Changes.{Change, OfInput, OfContents, changed_by, touches_any}
@@ -73,16 +73,16 @@ EditsPlanned plan n m before after es old new =
     ((after ≡ changed_by before (changes_of es)) × EditedPlan plan n (changes_of es) after old new)
 
 -- the two promises on lent buffers, as they were and as they are left
-abbrev pub env_was : Lent → Lent → Lent → Env
-env_was contents flops inputs = env (was contents) (was flops) (was inputs)
+abbrev pub env_was : Lent → Shown → Lent → Env
+env_was contents flops inputs = env (was contents) (shown flops) (was inputs)
 
-abbrev pub env_left : Lent → Lent → Lent → Env
-env_left contents flops inputs = env (left contents) (was flops) (left inputs)
+abbrev pub env_left : Lent → Shown → Lent → Env
+env_left contents flops inputs = env (left contents) (shown flops) (left inputs)
 
-abbrev pub Edits : Lent → Lent → Lent → Lent → Lent → List Edit → Answer → Type 0
+abbrev pub Edits : Shown → Lent → Shown → Lent → Lent → List Edit → Answer → Type 0
 Edits file contents flops inputs values es =
-    EditsMade (was file) (env_was contents flops inputs) (env_left contents flops inputs) es (was values) (left values)
+    EditsMade (shown file) (env_was contents flops inputs) (env_left contents flops inputs) es (was values) (left values)
 
-abbrev pub PlanEdits : Lent → ℕ → ℕ → Lent → Lent → Lent → Lent → List Edit → Answer → Type 0
+abbrev pub PlanEdits : Shown → ℕ → ℕ → Lent → Shown → Lent → Lent → List Edit → Answer → Type 0
 PlanEdits plan n m contents flops inputs values es =
-    EditsPlanned (was plan) n m (env_was contents flops inputs) (env_left contents flops inputs) es (was values) (left values)
+    EditsPlanned (shown plan) n m (env_was contents flops inputs) (env_left contents flops inputs) es (was values) (left values)

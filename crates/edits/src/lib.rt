@@ -1,6 +1,7 @@
 // The call on a slice file and lent buffers that changes it as it runs: the edits of a list. Here the list is in words (crate `editlist`).
+#![tactic(auto)]
+
 ghost use Rattle.std.specs.Prelude.{◌≡◌, [], ◌∷◌, ◌*◌, ◌≤◌, length};
-ghost use Rattle.lent.specs.Lent.{was};
 ghost use Rattle.slicefile.specs.Format.{slice_limit};
 ghost use Rattle.clocknumbers.specs.Numbers.{edge_length};
 ghost use Rattle.editlist.specs.Listed.{edit_limit, list_length, edit, edits_in};
@@ -20,7 +21,7 @@ const CONTENTS_LIMIT: usize = 4 * SLICE_LIMIT;
 // Whether an edit is of no kind, or its change is not in range.
 fn bad_edit(edges: &[u16], n: usize, m: usize, kind: u64, number: u64, value: u64) -> bool
     requires { (n ≤ slice_limit) × (length edges.now ≡ edge_length * n) }
-    ensures { result ≡ bad_edit (bad_table_by (was edges) n) m (edit kind number value) }
+    ensures { result ≡ bad_edit (bad_table_by edges.now n) m (edit kind number value) }
 {
     let at = number as usize;
     if kind == 0 {
@@ -32,7 +33,7 @@ fn bad_edit(edges: &[u16], n: usize, m: usize, kind: u64, number: u64, value: u6
 // Whether a list of edits is too long, or one of them is bad.
 fn bad_edits(edges: &[u16], n: usize, m: usize, words: &[u64], count: usize) -> bool
     requires { (n ≤ slice_limit) × (length edges.now ≡ edge_length * n) × (length words.now ≡ list_length) }
-    ensures { result ≡ bad_edits (bad_table_by (was edges) n) m (edits_in (was words) count) }
+    ensures { result ≡ bad_edits (bad_table_by edges.now n) m (edits_in words.now count) }
 {
     if EDIT_LIMIT < count {
         return true;
@@ -83,7 +84,7 @@ fn store_edits(
     requires words_len { (length words.now ≡ list_length) × (count ≤ edit_limit) }
     requires all_storable { AllStorable (length contents.old) (length inputs.old) (changes_of (edits_in words.now count)) }
     requires marks { Marks (store contents.old inputs.old changed.old edited.old) }
-    ensures { Stores (changes_of (edits_in (was words) count)) contents inputs changed edited }
+    ensures { Stores (changes_of (edits_in words.now count)) contents inputs changed edited }
 {
     let mut i = 0;
     while i < count {
@@ -114,7 +115,7 @@ fn edit_planned(
     count: usize,
 ) -> Answer
     requires { Runnable n m plan.now × (length words.now ≡ list_length) }
-    ensures { PlanEdits plan n m contents flops inputs values (edits_in (was words) count) result }
+    ensures { PlanEdits plan n m contents flops inputs values (edits_in words.now count) result }
 {
     let edges = plan::edges(plan, n);
     let bad = bad_edits(edges, n, m, words, count);

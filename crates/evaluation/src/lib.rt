@@ -1,6 +1,7 @@
 // The gate table read over the wires of a netlist: the number on a row of wires, and what a signal's gate gives.
+#![tactic(auto)]
+
 ghost use Rattle.std.specs.Prelude.{◌≡◌, ◌+◌, ◌*◌, ◌^◌, ◌≤◌, ◌<◌, length, get_or};
-ghost use Rattle.lent.specs.Lent.{was};
 ghost use Rattle.netlist.specs.Rule.{choose};
 ghost use Rattle.netlist.specs.Table.{row_length, signal_count, IsTable, stored_head};
 ghost use Rattle.evaluation.specs.Numbers.{Bits, AreWires, number_on, GateGives};
@@ -8,7 +9,7 @@ ghost use Rattle.evaluation.specs.Numbers.{Bits, AreWires, number_on, GateGives}
 // The bit on the wire at a number.
 pub fn wire(wires: &[u8], number: u16) -> u8
     requires { (number < length wires.now) × Bits wires.now }
-    ensures { (result ≡ get_or (was wires) number 0) × (result < 2) }
+    ensures { (result ≡ get_or wires.now number 0) × (result < 2) }
 {
     wires[number as usize]
 }
@@ -16,7 +17,7 @@ pub fn wire(wires: &[u8], number: u16) -> u8
 // The number on the wires at the k numbers from place i, lowest first.
 pub fn number_on(numbers: &[u16], i: usize, k: usize, wires: &[u8]) -> u8
     requires { (i + k ≤ length numbers.now) × (k ≤ 8) × AreWires wires.now numbers.now i k × Bits wires.now }
-    ensures { (result ≡ number_on (was wires) (was numbers) i k) × (result < 2 ^ k) }
+    ensures { (result ≡ number_on wires.now numbers.now i k) × (result < 2 ^ k) }
 {
     let mut number: u8 = 0;
     let mut j = k;
@@ -40,7 +41,7 @@ fn choose(select: u8, one: u8, zero: u8) -> u8
 pub fn gate_value(table: &[u16], n: usize, x: usize, contents: &[u64], wires: &[u8]) -> u8
     requires table { IsTable n table.now × (x < signal_count n) × (get_or table.now (row_length * x) 0 < stored_head n) }
     requires are_wires { AreWires wires.now table.now (row_length * x + 1) 6 × Bits wires.now }
-    ensures { GateGives (was contents) (was wires) n x (was table) result }
+    ensures { GateGives contents.now wires.now n x table.now result }
 {
     let at = netlist::ROW * x;
     let head = table[at] as usize;

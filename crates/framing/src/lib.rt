@@ -1,6 +1,7 @@
 // Refusals 1 to 7 of the records of a file: the header, the size record, a slice and the end.
+#![tactic(auto)]
+
 ghost use Rattle.std.specs.Prelude.{◌≡◌, true, ◌↔◌, take};
-ghost use Rattle.lent.specs.Lent.{was};
 ghost use Rattle.slicefile.specs.Format.{head_length, body_length, end_record};
 ghost use Rattle.framing.specs.Framing.{header_refusal, bad_size, slice_refusal, size_refusal};
 
@@ -23,7 +24,7 @@ fn body_length(tag: usize) -> usize
 
 // Refusals 1 to 4 of the record that begins the slice of bytes, up to its body being whole; 0 where there is none.
 pub fn header_refusal(due: usize, s: &[u8]) -> usize
-    ensures { result ≡ header_refusal due (was s) }
+    ensures { result ≡ header_refusal due s.now }
 {
     if s.len() < HEAD {
         return 1;
@@ -49,7 +50,7 @@ pub fn header_refusal(due: usize, s: &[u8]) -> usize
 
 // Refusals 1 to 7 of the record of the slice of a number, which begins the slice of bytes.
 pub fn slice_refusal(n: usize, m: usize, number: usize, s: &[u8]) -> usize
-    ensures { result ≡ slice_refusal n m number (was s) }
+    ensures { result ≡ slice_refusal n m number s.now }
 {
     let h = header_refusal(SLICE_TAG, s);
     if h != 0 {
@@ -67,7 +68,7 @@ pub fn bad_size(n: usize, m: usize) -> bool
 
 // Refusals 1 to 5 of the size record, which begins the slice of bytes.
 pub fn size_refusal(s: &[u8]) -> usize
-    ensures { result ≡ size_refusal (was s) }
+    ensures { result ≡ size_refusal s.now }
 {
     let h = header_refusal(SIZE_TAG, s);
     if h != 0 {
@@ -83,7 +84,7 @@ pub fn size_refusal(s: &[u8]) -> usize
 
 // Whether the bytes begin with the end record.
 pub fn is_end(s: &[u8]) -> bool
-    ensures { (result ≡ true) ↔ (take head_length (was s) ≡ end_record) }
+    ensures { (result ≡ true) ↔ (take head_length s.now ≡ end_record) }
 {
     if s.len() < HEAD {
         return false;

@@ -1,4 +1,6 @@
 // Judges the slice file on standard input and writes one line: `accepted N M` or `refused NUMBER PLACE`.
+#![tactic(auto)]
+
 use column::{FILE_LIMIT, Verdict};
 use libc::{STDIN_FILENO, STDOUT_FILENO};
 

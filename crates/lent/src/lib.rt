@@ -1,1 +1,3 @@
 // What contracts say of a lent slice: definitions only, no code.
+#![tactic(auto)]
+

@@ -1,12 +1,13 @@
 // One bit of a table's contents, by a shift to the right. `lookupmask` keeps the same promise by a mask.
+#![tactic(auto)]
+
 ghost use Rattle.std.specs.Prelude.{◌≡◌, ◌<◌, get_or};
-ghost use Rattle.lent.specs.Lent.{was};
 ghost use Rattle.netlist.specs.Rule.{bit_at};
 
 // Bit `k` of word `table`, 0 past the end.
 pub fn contents_bit(contents: &[u64], table: usize, k: u8) -> u8
     requires { k < 64 }
-    ensures { result ≡ bit_at (get_or (was contents) table 0) k }
+    ensures { result ≡ bit_at (get_or contents.now table 0) k }
 {
     if table < contents.len() {
         ((contents[table] >> k) % 2) as u8

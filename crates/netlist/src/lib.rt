@@ -1,7 +1,8 @@
 // A netlist of any slice family: what drives a pin, what one signal computes, and the table of numbers that holds the gates.
+#![tactic(auto)]
+
 ghost use Rattle.std.specs.Prelude.{◌≡◌, ◌+◌, ◌*◌, ◌≤◌, length};
 ghost use Rattle.std.proofs.lemmas.List.Edits.{sets};
-ghost use Rattle.lent.specs.Lent.{was, left};
 ghost use Rattle.netlist.specs.Table.{row_length};
 
 // How many signals and how many outside inputs a netlist may have.
@@ -26,7 +27,7 @@ pub const SIGNAL_WIRE: usize = 2;
 pub const WIRE_LIMIT: usize = SIGNAL_WIRE + SIGNAL_LIMIT + INPUT_ROOM;
 
 // What drives a pin. Signal numbers are absolute.
-#[derive(Drop)]
+#[derive(Clone, Copy)]
 pub enum Source {
     Constant(bool),
     Input(usize),
@@ -34,7 +35,7 @@ pub enum Source {
 }
 
 // What one signal computes, and from what.
-#[derive(Drop)]
+#[derive(Clone, Copy)]
 pub enum Gate {
     // The contents bit of `table` at the number on p6..p1, p1 lowest.
     Lut {
@@ -63,7 +64,7 @@ pub enum Gate {
 // Puts signal x's row into the gate table.
 pub fn put_row(table: &mut [u16], x: usize, row: [u16; ROW])
     requires { row_length * x + row_length ≤ length table.old }
-    ensures { left table ≡ sets (was table) (row_length * x) row }
+    ensures { table.new ≡ sets table.old (row_length * x) row }
 {
     let at = ROW * x;
     table[at] = row[0];

@@ -1,6 +1,7 @@
 // What the calls on an accepted file run on, in one buffer of numbers: the gate table, the numbers of the slices' edges, and an order of the signals.
+#![tactic(auto)]
+
 ghost use Rattle.std.specs.Prelude.{◌≡◌, ◌+◌, ◌*◌, ◌≤◌, ◌<◌, length};
-ghost use Rattle.lent.specs.Lent.{was, left};
 ghost use Rattle.lent.specs.Put.{Put, PutAll};
 ghost use Rattle.clocknumbers.specs.Numbers.{edge_length};
 ghost use Rattle.netlist.specs.Table.{signal_limit};
@@ -19,7 +20,7 @@ pub const PLAN_LIMIT: usize = (SLICE_NUMBERS + EDGE_LENGTH + SLICE_SIGNALS) * SL
 // The gate table of a plan of n slices.
 pub fn table(plan: &[u16], n: usize) -> &[u16]
     requires { (plan_length n ≤ length plan.now) × (plan_length n ≤ plan_limit) }
-    ensures { result.now ≡ plan_table (was plan) n }
+    ensures { result.now ≡ plan_table plan.now n }
 {
     &plan[..SLICE_NUMBERS * n]
 }
@@ -27,7 +28,7 @@ pub fn table(plan: &[u16], n: usize) -> &[u16]
 // The numbers of its slices' edges.
 pub fn edges(plan: &[u16], n: usize) -> &[u16]
     requires { (plan_length n ≤ length plan.now) × (plan_length n ≤ plan_limit) }
-    ensures { result.now ≡ plan_edges (was plan) n }
+    ensures { result.now ≡ plan_edges plan.now n }
 {
     let at = SLICE_NUMBERS * n;
     &plan[at..at + EDGE_LENGTH * n]
@@ -36,7 +37,7 @@ pub fn edges(plan: &[u16], n: usize) -> &[u16]
 // Its order.
 pub fn order(plan: &[u16], n: usize) -> &[u16]
     requires { (plan_length n ≤ length plan.now) × (plan_length n ≤ plan_limit) }
-    ensures { result.now ≡ plan_order (was plan) n }
+    ensures { result.now ≡ plan_order plan.now n }
 {
     let at = (SLICE_NUMBERS + EDGE_LENGTH) * n;
     &plan[at..at + SLICE_SIGNALS * n]
@@ -45,7 +46,7 @@ pub fn order(plan: &[u16], n: usize) -> &[u16]
 // Copies numbers to a place.
 fn copy_to(to: &mut [u16], at: usize, from: &[u16])
     requires { at + length from.now ≤ length to.old }
-    ensures { PutAll (was from) at (was to) (left to) }
+    ensures { PutAll from.now at to.old to.new }
 {
     let mut i = 0;
     while i < from.len() {
@@ -57,7 +58,7 @@ fn copy_to(to: &mut [u16], at: usize, from: &[u16])
 // Puts the numbers of the edges of a sound file's slices behind the gate table.
 fn put_edges(file: &[u8], n: usize, m: usize, plan: &mut [u16])
     requires { IsSound file.now n m × (length plan.old ≡ plan_limit) }
-    ensures { Put (edges_of (was file) n m) (edges_place n) (edge_length * n) (was plan) (left plan) }
+    ensures { Put (edges_of file.now n m) (edges_place n) (edge_length * n) plan.old plan.new }
 {
     let mut s = 0;
     while s < n {
@@ -72,7 +73,7 @@ fn put_edges(file: &[u8], n: usize, m: usize, plan: &mut [u16])
 fn complete(file: &[u8], n: usize, m: usize, turns: &[u16], plan: &mut [u16])
     requires netlisted { Netlisted file.now n m plan.old turns.now }
     requires turns_len { (length turns.now ≡ signal_limit) × (length plan.old ≡ plan_limit) }
-    ensures { Ready (was file) n m (left plan) }
+    ensures { Ready file.now n m plan.new }
 {
     put_edges(file, n, m, plan);
     copy_to(
@@ -85,7 +86,7 @@ fn complete(file: &[u8], n: usize, m: usize, turns: &[u16], plan: &mut [u16])
 // Judges any bytes, and leaves the plan of an accepted file at the front of the buffer.
 pub fn load(file: &[u8], plan: &mut [u16]) -> Verdict
     requires { length plan.old ≡ plan_limit }
-    ensures { Loaded (was file) (left plan) result }
+    ensures { Loaded file.now plan.new result }
 {
     let mut turns = [0u16; SIGNAL_LIMIT];
     let v = column::load(file, &mut plan[..TABLE_LIMIT], &mut turns);

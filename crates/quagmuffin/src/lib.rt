@@ -1,6 +1,7 @@
 // The exported library: each call takes slices and numbers, and answers one number, the answer of the call below it, packed.
+#![tactic(auto)]
+
 ghost use Rattle.std.specs.Prelude.{◌≡◌, ◌<◌, ◌^◌, length};
-ghost use Rattle.lent.specs.Lent.{was, left};
 ghost use Rattle.slicefile.specs.Format.{slice_tag, body_length};
 ghost use Rattle.column.specs.Judge.{Judged};
 ghost use Rattle.calls.specs.Calls.{PowersUp};
@@ -52,7 +53,7 @@ fn pack_verdict(verdict: Verdict) -> u64
 // Judges any bytes.
 #[unsafe(no_mangle)]
 pub extern "C" fn qm_judge(file: &[u8]) -> u64
-    ensures { Packed pack_verdict (Judged (was file)) result }
+    ensures { Packed pack_verdict (Judged file.now) result }
 {
     pack_verdict(column::judge(file))
 }
@@ -118,7 +119,7 @@ pub extern "C" fn qm_edit(
     values: &mut [u8],
     edits: &[Edit],
 ) -> u64
-    ensures { Answered (Edits file contents flops inputs values (was edits)) result }
+    ensures { Answered (Edits file contents flops inputs values edits.now) result }
 {
     let words = editlist::list_edits(edits);
     edit_listed(file, contents, flops, inputs, values, words, edits.len())
@@ -127,7 +128,7 @@ pub extern "C" fn qm_edit(
 // Reads a record, and fills a body with its fields.
 fn read_body(bytes: &[u8], n: usize, m: usize, body: &mut [u8]) -> Answer
     requires { length body.old ≡ body_length slice_tag }
-    ensures { ReadInto (was bytes) n m (was body) (left body) result }
+    ensures { ReadInto bytes.now n m body.old body.new result }
 {
     let reading = recordcalls::read_record(bytes, n, m);
     let answer = reading.answer;
@@ -141,7 +142,7 @@ fn read_body(bytes: &[u8], n: usize, m: usize, body: &mut [u8]) -> Answer
 // Reads one slice record, of 127 bytes, of a file of n slices and m outside inputs, into a body of 124 bytes.
 #[unsafe(no_mangle)]
 pub extern "C" fn qm_read_record(bytes: &[u8], n: usize, m: usize, body: &mut [u8]) -> u64
-    ensures { RecordRead (was bytes) n m (was body) (left body) result }
+    ensures { RecordRead bytes.now n m body.old body.new result }
 {
     if body.len() != SLICE_BODY {
         return 10;
@@ -152,7 +153,7 @@ pub extern "C" fn qm_read_record(bytes: &[u8], n: usize, m: usize, body: &mut [u
 // Writes the record with a body of 124 bytes into the first 127 bytes of a part of a file of n slices and m outside inputs.
 #[unsafe(no_mangle)]
 pub extern "C" fn qm_write_record(body: &[u8], n: usize, m: usize, part: &mut [u8]) -> u64
-    ensures { RecordWritten (was body) n m (was part) (left part) result }
+    ensures { RecordWritten body.now n m part.old part.new result }
 {
     if body.len() != SLICE_BODY {
         return 10;
@@ -201,7 +202,7 @@ fn unpack_reply(number: u64) -> Reply
 // The reader of a state.
 fn load_reader(state: &[u64]) -> Reader
     requires { length state.now ≡ state_length }
-    ensures { result ≡ reader_of (was state) }
+    ensures { result ≡ reader_of state.now }
 {
     Reader {
         len: state[0] as usize,
@@ -213,7 +214,7 @@ fn load_reader(state: &[u64]) -> Reader
 // Stores a reader in a state.
 fn store_reader(state: &mut [u64], reader: Reader)
     requires { (length state.old ≡ state_length) × FitsReply reader.said }
-    ensures { left state ≡ words_of reader }
+    ensures { state.new ≡ words_of reader }
 {
     let said = reader.said;
     state[0] = reader.len as u64;
@@ -224,7 +225,7 @@ fn store_reader(state: &mut [u64], reader: Reader)
 // Gives a reader the next run of a file's bytes, and whether no more will come: 0 is "more", else its verdict.
 #[unsafe(no_mangle)]
 pub extern "C" fn qm_feed(state: &mut [u64], store: &mut [u8], run: &[u8], last: u8) -> u64
-    ensures { FeedsWords (was state) (was store) (was run) last result (left state) (left store) }
+    ensures { FeedsWords state.old store.old run.now last result state.new store.new }
 {
     if state.len() != STATE {
         return 10;

@@ -1,13 +1,14 @@
 // The record calls: one slice record read from its bytes, and written into a lent part of a file.
+#![tactic(auto)]
+
 ghost use Rattle.std.specs.Prelude.{◌≡◌, length};
-ghost use Rattle.lent.specs.Lent.{was, left};
 ghost use Rattle.recordcalls.specs.Calls.{zero_record, record_refusal, write_refusal, answer_of, read_record, written};
 
 use slicefile::{Answer, HEAD, NUMBER, PIN_COUNT, SLICE_RECORD, SLICE_TAG};
 use slicerecord::Record;
 
 // The reader's answer: an enum holds no array, so the record stands beside it, all zeros on refusal.
-#[derive(Drop)]
+#[derive(Clone, Copy)]
 pub struct Reading {
     pub answer: Answer,
     pub slice: Record,
@@ -37,7 +38,7 @@ fn zero_record() -> Record
 
 // Rules 2 to 7 on a record, any number below n being due; 0 where none is broken.
 fn record_refusal(n: usize, m: usize, s: &[u8]) -> usize
-    ensures { result ≡ record_refusal n m (was s) }
+    ensures { result ≡ record_refusal n m s.now }
 {
     let h = framing::header_refusal(SLICE_TAG, s);
     if h != 0 {
@@ -64,7 +65,7 @@ fn no_record(number: usize) -> Reading
 
 // Reads one slice record, of 127 bytes, of a file of n slices and m outside inputs.
 pub fn read_record(bytes: &[u8], n: usize, m: usize) -> Reading
-    ensures { result ≡ read_record (was bytes) n m }
+    ensures { result ≡ read_record bytes.now n m }
 {
     if bytes.len() != SLICE_RECORD {
         return no_record(10);
@@ -85,7 +86,7 @@ pub fn read_record(bytes: &[u8], n: usize, m: usize) -> Reading
 
 // Writes one slice record into the first 127 bytes of a part of a file of n slices and m outside inputs. A refusal writes nothing.
 pub fn write_record(slice: Record, n: usize, m: usize, part: &mut [u8]) -> Answer
-    ensures { (result ≡ answer_of (write_refusal slice n m (length (was part)))) × (left part ≡ written slice n m (was part)) }
+    ensures { (result ≡ answer_of (write_refusal slice n m (length part.old))) × (part.new ≡ written slice n m part.old) }
 {
     if part.len() < SLICE_RECORD {
         return Answer::Refused {

@@ -1,6 +1,7 @@
 // A file read and written again, record by record: the writer is lent the part after what is written already.
+#![tactic(auto)]
+
 ghost use Rattle.std.specs.Prelude.{◌≡◌, ◌++◌, ◌≤◌, length, drop};
-ghost use Rattle.lent.specs.Lent.{was, left};
 ghost use Rattle.slicefile.specs.Format.{slice_tag, record_length};
 ghost use Rattle.recordcalls.specs.Calls.{read_refusal};
 ghost use Rattle.column.specs.Check.{IsSound};
@@ -17,7 +18,7 @@ const LENGTH: u8 = SIZE_BODY as u8;
 // Reads a slice record and writes it at the start of a part.
 fn put_slice(bytes: &[u8], n: usize, m: usize, part: &mut [u8])
     requires { (read_refusal bytes.now n m ≡ 0) × (record_length slice_tag ≤ length part.old) }
-    ensures { left part ≡ was bytes ++ drop (record_length slice_tag) (was part) }
+    ensures { part.new ≡ bytes.now ++ drop (record_length slice_tag) part.old }
 {
     let reading = recordcalls::read_record(bytes, n, m);
     let slice = reading.slice;
@@ -27,7 +28,7 @@ fn put_slice(bytes: &[u8], n: usize, m: usize, part: &mut [u8])
 // Rewrites the records of a sound file into a buffer of its length.
 fn put_records(file: &[u8], n: usize, m: usize, out: &mut [u8])
     requires { IsSound file.now n m × (length out.old ≡ length file.now) }
-    ensures { left out ≡ was file }
+    ensures { out.new ≡ file.now }
 {
     slicerecord::put_bytes(out, 0, &[TAG, LENGTH, 0, n as u8, m as u8]);
     let mut s: usize = 0;
@@ -42,7 +43,7 @@ fn put_records(file: &[u8], n: usize, m: usize, out: &mut [u8])
 
 // Rewrites a file into a lent buffer of its length. A refusal writes nothing.
 pub fn rewrite_file(file: &[u8], out: &mut [u8]) -> Answer
-    ensures { (result ≡ rewritten (was file) (was out)) × (left out ≡ left_by result (was file) (was out)) }
+    ensures { (result ≡ rewritten file.now out.old) × (out.new ≡ left_by result file.now out.old) }
 {
     match column::check_file(file) {
         Checked::Bad { number, place } => Answer::Refused { number, place },

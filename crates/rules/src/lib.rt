@@ -1,6 +1,7 @@
 // Rules 4 to 7 on a slice's body.
+#![tactic(auto)]
+
 ghost use Rattle.std.specs.Prelude.{◌≡◌, ◌<◌};
-ghost use Rattle.lent.specs.Lent.{was};
 ghost use Rattle.slicefile.specs.Format.{HoldsSlice};
 ghost use Rattle.rules.specs.Rules.{letter_choice, bad_choice, letter_combination, bad_combination, missing, bad_driver, body_refusal};
 
@@ -12,7 +13,7 @@ use slicefile::{
 // A choice of a letter that is outside its list.
 fn letter_choice(body: &[u8], l: usize) -> bool
     requires { HoldsSlice body.now × (l < 4) }
-    ensures { result ≡ letter_choice (was body) l }
+    ensures { result ≡ letter_choice body.now l }
 {
     (2 < body[MODE + l])
         | (1 < body[SHIFT_DATA + l])
@@ -25,7 +26,7 @@ fn letter_choice(body: &[u8], l: usize) -> bool
 // Rule 5 on a slice's body.
 fn bad_choice(body: &[u8]) -> bool
     requires { HoldsSlice body.now }
-    ensures { result ≡ bad_choice (was body) }
+    ensures { result ≡ bad_choice body.now }
 {
     let mut letters = false;
     let mut l = 0;
@@ -39,7 +40,7 @@ fn bad_choice(body: &[u8]) -> bool
 // A letter's share of rule 6.
 fn letter_combination(body: &[u8], l: usize) -> bool
     requires { HoldsSlice body.now × (l < 4) }
-    ensures { result ≡ letter_combination (was body) l }
+    ensures { result ≡ letter_combination body.now l }
 {
     let mode = body[MODE + l];
     let next = body[MODE + (l + 1)];
@@ -53,7 +54,7 @@ fn letter_combination(body: &[u8], l: usize) -> bool
 // Rule 6 on the body of the slice of a number.
 fn bad_combination(number: usize, body: &[u8]) -> bool
     requires { HoldsSlice body.now }
-    ensures { result ≡ bad_combination number (was body) }
+    ensures { result ≡ bad_combination number body.now }
 {
     let mut letters = false;
     let mut memory = false;
@@ -80,7 +81,7 @@ fn is_missing(d: Decoded) -> bool
 // Rule 7 on a slice's body.
 fn bad_driver(n: usize, m: usize, body: &[u8]) -> bool
     requires { HoldsSlice body.now }
-    ensures { result ≡ bad_driver n m (was body) }
+    ensures { result ≡ bad_driver n m body.now }
 {
     let mut found = false;
     let mut p = 0;
@@ -95,7 +96,7 @@ fn bad_driver(n: usize, m: usize, body: &[u8]) -> bool
 // Rules 4 to 7 on the body of the slice of a number; 0 where none is broken.
 pub fn body_refusal(n: usize, m: usize, number: usize, body: &[u8]) -> usize
     requires { HoldsSlice body.now }
-    ensures { result ≡ body_refusal n m number (was body) }
+    ensures { result ≡ body_refusal n m number body.now }
 {
     let told = body[NUMBER] as usize;
     if told != number % 256 {

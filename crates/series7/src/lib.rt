@@ -1,6 +1,7 @@
 // The slice of the 7 series as gates: what each of its 32 signals reads, from the body of its record, as the signal's row in the gate table.
+#![tactic(auto)]
+
 ghost use Rattle.std.specs.Prelude.{◌≡◌, [], ◌∷◌, ◌*◌, ◌<◌, ◌≤◌, eqb};
-ghost use Rattle.lent.specs.Lent.{was};
 ghost use Rattle.netlist.specs.Table.{slice_signals, code_of, gate_numbers};
 ghost use Rattle.netlist.specs.declared.Gate.TheVariants.{Same};
 ghost use Rattle.slicefile.specs.Format.{HoldsSlice, mode, carry_start, mux_choice, bypass_pin};
@@ -20,7 +21,7 @@ const CARRY_OUT: usize = CARRY_SIGNAL + 3;
 const CARRY_BEFORE: usize = CARRY_SIGNAL - 1;
 
 // The six pins of a look-up table, for the definitions.
-#[derive(Drop)]
+#[derive(Clone, Copy)]
 pub struct Pins {
     pub p1: Source,
     pub p2: Source,
@@ -31,7 +32,7 @@ pub struct Pins {
 }
 
 // The eight families of four signals of a slice.
-#[derive(Drop)]
+#[derive(Clone, Copy)]
 pub enum Family {
     O6,
     O5,
@@ -54,7 +55,7 @@ fn row_of(head: usize, a: u16, b: u16, c: u16) -> [u16; ROW]
 // Where a slice's carry chain starts.
 fn start_number(n: usize, m: usize, s: usize, body: &[u8], pins: &[u16; PIN_COUNT]) -> u16
     requires { HasPins n m s body.now pins.now }
-    ensures { result ≡ code_of n (start_source (carry_start (was body)) s (pin_source n m (was body) (bypass_pin 0))) }
+    ensures { result ≡ code_of n (start_source (carry_start body.now) s (pin_source n m body.now (bypass_pin 0))) }
 {
     let choice = body[CARRY_START];
     if choice == 0 {
@@ -75,7 +76,7 @@ fn start_number(n: usize, m: usize, s: usize, body: &[u8], pins: &[u16; PIN_COUN
 // The carry coming into a letter.
 fn carry_in(n: usize, m: usize, s: usize, body: &[u8], pins: &[u16; PIN_COUNT], l: usize) -> u16
     requires { HasPins n m s body.now pins.now × (l < 4) }
-    ensures { result ≡ code_of n (carry_in n m s (was body) l) }
+    ensures { result ≡ code_of n (carry_in n m s body.now l) }
 {
     if l == 0 {
         return start_number(n, m, s, body, pins);
@@ -86,7 +87,7 @@ fn carry_in(n: usize, m: usize, s: usize, body: &[u8], pins: &[u16; PIN_COUNT], 
 // A letter's carry data.
 fn carry_data(n: usize, m: usize, s: usize, body: &[u8], pins: &[u16; PIN_COUNT], l: usize) -> u16
     requires { HasPins n m s body.now pins.now × (l < 4) }
-    ensures { result ≡ code_of n (carry_source n m s (was body) l) }
+    ensures { result ≡ code_of n (carry_source n m s body.now l) }
 {
     if body[CARRY_DATA + l] == 0 {
         return sources::own_number(s, O5_SIGNAL + l);
@@ -103,7 +104,7 @@ fn o6_row(
     l: usize,
 ) -> [u16; ROW]
     requires { HasPins n m s body.now pins.now × (l < 4) }
-    ensures { result ≡ gate_numbers n (family_gate n m s (was body) Family.O6 l) }
+    ensures { result ≡ gate_numbers n (family_gate n m s body.now Family.O6 l) }
 {
     let table = (4 * s + l) as u16;
     let first = TABLE_PINS * l;
@@ -128,7 +129,7 @@ fn o5_row(
     l: usize,
 ) -> [u16; ROW]
     requires { HasPins n m s body.now pins.now × (l < 4) }
-    ensures { result ≡ gate_numbers n (family_gate n m s (was body) Family.O5 l) }
+    ensures { result ≡ gate_numbers n (family_gate n m s body.now Family.O5 l) }
 {
     let table = 4 * s + l;
     if body[MODE + l] == 2 {
@@ -145,7 +146,7 @@ fn o5_row(
 
 fn mc31_row(n: usize, s: usize, body: &[u8]) -> [u16; ROW]
     requires { HoldsSlice body.now × (n ≤ column_limit) × (s < n) }
-    ensures { result ≡ gate_numbers n (mc31_gate (eqb (mode (was body) 0) 2) (4 * s)) }
+    ensures { result ≡ gate_numbers n (mc31_gate (eqb (mode body.now 0) 2) (4 * s)) }
 {
     if body[MODE] == 2 {
         return [(4 * s) as u16, 1, 1, 1, 1, 1, 0];
@@ -166,7 +167,7 @@ fn by_bypass(
 ) -> [u16; ROW]
     requires has_pins { HasPins n m s body.now pins.now }
     requires l_bound { (l < 4) × (one < slice_signals) × (other < slice_signals) }
-    ensures { result ≡ gate_numbers n (by_bypass n m s (was body) l one other) }
+    ensures { result ≡ gate_numbers n (by_bypass n m s body.now l one other) }
 {
     let select = pins[BYPASS_PIN + l];
     let a = sources::own_number(s, one);
@@ -184,7 +185,7 @@ fn wide_row(
     i: usize,
 ) -> [u16; ROW]
     requires { HasPins n m s body.now pins.now }
-    ensures { result ≡ gate_numbers n (wide_gate n m s (was body) i) }
+    ensures { result ≡ gate_numbers n (wide_gate n m s body.now i) }
 {
     if i == 0 {
         return by_bypass(n, m, s, body, pins, 0, 0, 1);
@@ -207,7 +208,7 @@ fn carry_row(
     l: usize,
 ) -> [u16; ROW]
     requires { HasPins n m s body.now pins.now × (l < 4) }
-    ensures { result ≡ gate_numbers n (family_gate n m s (was body) Family.Carry l) }
+    ensures { result ≡ gate_numbers n (family_gate n m s body.now Family.Carry l) }
 {
     let select = sources::own_number(s, l);
     let one = carry_in(n, m, s, body, pins, l);
@@ -224,7 +225,7 @@ fn sum_row(
     l: usize,
 ) -> [u16; ROW]
     requires { HasPins n m s body.now pins.now × (l < 4) }
-    ensures { result ≡ gate_numbers n (family_gate n m s (was body) Family.Sum l) }
+    ensures { result ≡ gate_numbers n (family_gate n m s body.now Family.Sum l) }
 {
     let a = sources::own_number(s, l);
     let b = carry_in(n, m, s, body, pins, l);
@@ -252,7 +253,7 @@ fn mux_signal(l: usize, choice: u8) -> usize
 
 fn mux_row(n: usize, s: usize, body: &[u8], l: usize) -> [u16; ROW]
     requires { HoldsSlice body.now × (n ≤ column_limit) × (s < n) × (l < 4) }
-    ensures { result ≡ gate_numbers n (Same (own s (mux_signal l (mux_choice (was body) l)))) }
+    ensures { result ≡ gate_numbers n (Same (own s (mux_signal l (mux_choice body.now l)))) }
 {
     let k = mux_signal(l, body[MUX + l]);
     let a = sources::own_number(s, k);
@@ -298,7 +299,7 @@ fn family_row(
     l: usize,
 ) -> [u16; ROW]
     requires { HasPins n m s body.now pins.now × (l < 4) }
-    ensures { result ≡ gate_numbers n (family_gate n m s (was body) f l) }
+    ensures { result ≡ gate_numbers n (family_gate n m s body.now f l) }
 {
     match f {
         Family::O6 => o6_row(n, m, s, body, pins, l),
@@ -322,7 +323,7 @@ pub fn row_at(
     k: usize,
 ) -> [u16; ROW]
     requires { HasPins n m s body.now pins.now × (k < slice_signals) }
-    ensures { result ≡ gate_numbers n (slice_gate n m s (was body) k) }
+    ensures { result ≡ gate_numbers n (slice_gate n m s body.now k) }
 {
     family_row(n, m, s, body, pins, family_of(k), k % 4)
 }

@@ -1,8 +1,8 @@
 -- What settle and clock answer and leave.
 use Rattle.std.specs.Prelude.{ℕ, ◌≡◌, List}
-use Rattle.lent.specs.Lent.{Lent, was, left}
+use Rattle.lent.specs.Lent.{Lent, Shown, was, left, shown}
 use Rattle.slicefile.specs.declared.Answer.{Answer}
-use Rattle.column.specs.Clock.{State, state_was, state_left, env_of, clocked, SettledFor}
+use Rattle.column.specs.Clock.{State, state_of, state_was, state_left, env_of, clocked, SettledFor}
 use Rattle.netlist.specs.Settle.{Settled}
 use Rattle.netlist.specs.Table.{signal_count, net_of}
 use Rattle.evaluation.specs.Numbers.{Bits}
@@ -42,10 +42,10 @@ pub record Clocked (plan : List ℕ) (n : ℕ) (st moved : State) (inputs values
   pub bits : Bits wires
 
 -- the two calls' promises on lent buffers, as they were and as they are left
-abbrev pub Settles : Lent → Lent → Lent → Lent → Lent → Answer → Type 0
+abbrev pub Settles : Shown → Shown → Shown → Shown → Lent → Answer → Type 0
 Settles file contents flops inputs values =
-    SettleCalled (was file) (state_was contents flops) (was inputs) (was values) (left values)
+    SettleCalled (shown file) (state_of (shown contents) (shown flops)) (shown inputs) (was values) (left values)
 
-abbrev pub Clocks : Lent → Lent → Lent → Lent → Lent → Answer → Type 0
+abbrev pub Clocks : Shown → Lent → Lent → Shown → Lent → Answer → Type 0
 Clocks file contents flops inputs values =
-    ClockCalled (was file) (state_was contents flops) (state_left contents flops) (was inputs) (was values) (left values)
+    ClockCalled (shown file) (state_was contents flops) (state_left contents flops) (shown inputs) (was values) (left values)

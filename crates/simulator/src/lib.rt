@@ -1,6 +1,7 @@
 // The calls on a slice file and lent buffers that run it: settle and clock.
+#![tactic(auto)]
+
 ghost use Rattle.std.specs.Prelude.{◌≡◌, ◌*◌, length};
-ghost use Rattle.lent.specs.Lent.{was, left};
 ghost use Rattle.netlist.specs.Table.{signal_count, wire_count};
 ghost use Rattle.evaluation.specs.Numbers.{Bits};
 ghost use Rattle.column.specs.Clock.{state_was, state_left};
@@ -24,7 +25,7 @@ fn settle_planned(
     wires: &mut [u8],
 ) -> Answer
     requires { Runnable n m plan.now × (length wires.old ≡ wire_count n m) × Bits wires.old }
-    ensures { SettlePlanned (was plan) n m (state_was contents flops) (was inputs) (was values) (left values) result }
+    ensures { SettlePlanned plan.now n m (state_was contents flops) inputs.now values.old values.new result }
 {
     let edges = plan::edges(plan, n);
     let number = buffers::settle_refusal(edges, n, m, contents, flops, inputs, values);
@@ -79,7 +80,7 @@ pub fn clock_by(
     requires runnable { Runnable n (length inputs.now) plan.now × (length wires.old ≡ wire_count n (length inputs.now)) }
     requires contents_len { (length contents.old ≡ 4 * n) × (length flops.old ≡ n) × (length values.old ≡ signal_count n) }
     requires bits { Bits inputs.now × Bits wires.old }
-    ensures { Clocked (was plan) n (state_was contents flops) (state_left contents flops) (was inputs) (left values) (left wires) }
+    ensures { Clocked plan.now n (state_was contents flops) (state_left contents flops) inputs.now values.new wires.new }
 {
     let table = plan::table(plan, n);
     let order = plan::order(plan, n);
@@ -100,7 +101,7 @@ fn clock_planned(
     wires: &mut [u8],
 ) -> Answer
     requires { Runnable n m plan.now × (length wires.old ≡ wire_count n m) × Bits wires.old }
-    ensures { ClockPlanned (was plan) n m (state_was contents flops) (state_left contents flops) (was inputs) (was values) (left values) result }
+    ensures { ClockPlanned plan.now n m (state_was contents flops) (state_left contents flops) inputs.now values.old values.new result }
 {
     let edges = plan::edges(plan, n);
     let number = buffers::settle_refusal(edges, n, m, contents, flops, inputs, values);

@@ -1,6 +1,7 @@
 // The slice file: its limits, its layout, the words and codes of a slice's body, and the decoder of a pin's driver.
+#![tactic(auto)]
+
 ghost use Rattle.std.specs.Prelude.{◌≡◌, ◌+◌, ◌<◌, length};
-ghost use Rattle.lent.specs.Lent.{was};
 ghost use Rattle.slicefile.specs.Format.{pair_at, HoldsSlice, contents_word, pin_count, pin_code};
 ghost use Rattle.slicefile.specs.Driver.{driver_of};
 
@@ -88,14 +89,14 @@ pub const PINS_D: usize = TABLE_PINS * 3;
 pub const END: [u8; 3] = *b"\x03\x00\x00";
 
 // One output of one slice: 0-3 the look-up tables' O6, 4-7 the MUX outputs, 8-11 the main flip-flops.
-#[derive(Drop)]
+#[derive(Clone, Copy)]
 pub struct Output {
     pub slice: usize,
     pub output: usize,
 }
 
 // What drives a pin: a constant, nothing (a pin left open is pulled up), an outside input, or one output of one slice.
-#[derive(Drop)]
+#[derive(Clone, Copy)]
 pub enum Driver {
     Constant(bool),
     Open,
@@ -104,14 +105,14 @@ pub enum Driver {
 }
 
 // The decoder's answer: the driver of a pin code, or that no such driver exists.
-#[derive(Drop)]
+#[derive(Clone, Copy)]
 pub enum Decoded {
     Driven(Driver),
     Missing,
 }
 
 // The answer of a call that gives nothing back: a refusal's number and place, or that it was done.
-#[derive(Drop)]
+#[derive(Clone, Copy)]
 pub enum Answer {
     Refused { number: usize, place: usize },
     Done,
@@ -157,7 +158,7 @@ fn wide(x: u8) -> u64
 // A letter's contents word in a slice's body, low byte first.
 pub fn contents_word(body: &[u8], l: usize) -> u64
     requires { HoldsSlice body.now × (l < 4) }
-    ensures { result ≡ contents_word (was body) l }
+    ensures { result ≡ contents_word body.now l }
 {
     let mut w: u64 = 0;
     let mut i: usize = WORD;
@@ -177,7 +178,7 @@ fn wide16(x: u8) -> u16
 // A number of two bytes, low byte first.
 pub fn pair_at(s: &[u8], i: usize) -> u16
     requires { i + 1 < length s.now }
-    ensures { result ≡ pair_at (was s) i }
+    ensures { result ≡ pair_at s.now i }
 {
     wide16(s[i]) + 256 * wide16(s[i + 1])
 }
@@ -185,7 +186,7 @@ pub fn pair_at(s: &[u8], i: usize) -> u16
 // The driver code of pin p in a slice's body.
 pub fn pin_code(body: &[u8], p: usize) -> u16
     requires { HoldsSlice body.now × (p < pin_count) }
-    ensures { result ≡ pin_code (was body) p }
+    ensures { result ≡ pin_code body.now p }
 {
     pair_at(body, PINS + CODE * p)
 }

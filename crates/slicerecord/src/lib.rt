@@ -1,7 +1,8 @@
 // One slice record as a struct: its fields read from a body's bytes, and its bytes.
+#![tactic(auto)]
+
 ghost use Rattle.std.specs.Prelude.{◌≡◌, ◌+◌, ◌*◌, ◌≤◌, length};
 ghost use Rattle.std.proofs.lemmas.List.Edits.{sets};
-ghost use Rattle.lent.specs.Lent.{was, left};
 ghost use Rattle.slicefile.specs.Format.{byte_at, HoldsSlice, pin_count, pin_code};
 ghost use Rattle.slicefile.specs.Lists.{tabulate};
 ghost use Rattle.slicerecord.specs.Record.{letters, record_of, bytes_of, all_bytes, record_bytes};
@@ -39,7 +40,7 @@ const POWERUP_AT: usize = HEAD + POWER_UP;
 const PINS_AT: usize = HEAD + PINS;
 
 // A slice record as raw fields: choices and bits as their bytes, contents as words, pins as driver codes.
-#[derive(Drop)]
+#[derive(Clone, Copy)]
 pub struct Record {
     // Bytes 0 and 1: the slice's number; 0 SLICEL, 1 SLICEM.
     pub number: u8,
@@ -66,7 +67,7 @@ pub struct Record {
 // Four bytes of a body, a letter's each.
 fn letter_bytes(body: &[u8], at: usize) -> [u8; 4]
     requires { at + 4 ≤ length body.now }
-    ensures { result ≡ letters (λ l. byte_at (was body) (at + l)) }
+    ensures { result ≡ letters (λ l. byte_at body.now (at + l)) }
 {
     [body[at], body[at + 1], body[at + 2], body[at + 3]]
 }
@@ -74,7 +75,7 @@ fn letter_bytes(body: &[u8], at: usize) -> [u8; 4]
 // The driver codes of a body's pins.
 fn pin_codes(body: &[u8]) -> [u16; PIN_COUNT]
     requires { HoldsSlice body.now }
-    ensures { result ≡ tabulate 0 pin_count (pin_code (was body)) }
+    ensures { result ≡ tabulate 0 pin_count (pin_code body.now) }
 {
     let mut codes = [0u16; PIN_COUNT];
     let mut p = 0;
@@ -88,7 +89,7 @@ fn pin_codes(body: &[u8]) -> [u16; PIN_COUNT]
 // The record that a slice's body holds.
 pub fn decode(body: &[u8]) -> Record
     requires { HoldsSlice body.now }
-    ensures { result ≡ record_of (was body) }
+    ensures { result ≡ record_of body.now }
 {
     let contents = [
         slicefile::contents_word(body, 0),
@@ -124,7 +125,7 @@ pub fn decode(body: &[u8]) -> Record
 // Stores bytes from an offset on.
 pub fn put_bytes(out: &mut [u8], at: usize, src: &[u8])
     requires { at + length src.now ≤ length out.old }
-    ensures { left out ≡ sets (was out) at (was src) }
+    ensures { out.new ≡ sets out.old at src.now }
 {
     let mut i = 0;
     while i < src.len() {
@@ -136,7 +137,7 @@ pub fn put_bytes(out: &mut [u8], at: usize, src: &[u8])
 // Stores the low k bytes of a number from an offset on, low byte first.
 fn put_number(out: &mut [u8], at: usize, k: usize, w: u64)
     requires { at + k ≤ length out.old }
-    ensures { left out ≡ sets (was out) at (bytes_of k w) }
+    ensures { out.new ≡ sets out.old at (bytes_of k w) }
 {
     let mut rest = w;
     let mut i = 0;
@@ -150,7 +151,7 @@ fn put_number(out: &mut [u8], at: usize, k: usize, w: u64)
 // Stores words of contents, 8 bytes each.
 fn put_words(out: &mut [u8], at: usize, words: &[u64])
     requires { at + 8 * length words.now ≤ length out.old }
-    ensures { left out ≡ sets (was out) at (all_bytes 8 (was words)) }
+    ensures { out.new ≡ sets out.old at (all_bytes 8 words.now) }
 {
     let mut i = 0;
     while i < words.len() {
@@ -162,7 +163,7 @@ fn put_words(out: &mut [u8], at: usize, words: &[u64])
 // Stores driver codes, 2 bytes each.
 fn put_codes(out: &mut [u8], at: usize, codes: &[u16])
     requires { at + 2 * length codes.now ≤ length out.old }
-    ensures { left out ≡ sets (was out) at (all_bytes 2 (was codes)) }
+    ensures { out.new ≡ sets out.old at (all_bytes 2 codes.now) }
 {
     let mut i = 0;
     while i < codes.len() {

@@ -1,6 +1,7 @@
 // Where a slice takes its bits from: the numbers of its pins and of its own signals, and which of them is "wide".
+#![tactic(auto)]
+
 ghost use Rattle.std.specs.Prelude.{◌≡◌, ◌+◌, ◌*◌, ◌<◌, ◌≤◌};
-ghost use Rattle.lent.specs.Lent.{was};
 ghost use Rattle.netlist.specs.Table.{slice_signals, signal_wire, input_room, code_of};
 ghost use Rattle.slicefile.specs.Format.{pin_count, HoldsSlice};
 ghost use Rattle.slicefile.specs.Driver.{Within, DecodedWithin};
@@ -88,7 +89,7 @@ fn decoded_number(n: usize, d: Decoded) -> u16
 // The number of where pin p of a slice takes its bit from.
 pub fn pin_number(n: usize, m: usize, body: &[u8], p: usize) -> u16
     requires { HoldsSlice body.now × (p < pin_count) × (n ≤ column_limit) × (m ≤ input_room) }
-    ensures { result ≡ code_of n (pin_source n m (was body) p) }
+    ensures { result ≡ code_of n (pin_source n m body.now p) }
 {
     decoded_number(n, decode_driver(pin_code(body, p), n, m))
 }
@@ -96,7 +97,7 @@ pub fn pin_number(n: usize, m: usize, body: &[u8], p: usize) -> u16
 // The numbers of all pins of a slice.
 pub fn pin_numbers(n: usize, m: usize, body: &[u8]) -> [u16; PIN_COUNT]
     requires { HoldsSlice body.now × (n ≤ column_limit) × (m ≤ input_room) }
-    ensures { result ≡ pin_numbers n m (was body) }
+    ensures { result ≡ pin_numbers n m body.now }
 {
     let mut numbers = [0u16; PIN_COUNT];
     let mut p = 0;

@@ -1,6 +1,7 @@
 // A file that comes in runs of bytes: a reader says "more", or its verdict as soon as it is certain.
+#![tactic(auto)]
+
 ghost use Rattle.std.specs.Prelude.{◌≡◌, true, false, ◌≤◌, length};
-ghost use Rattle.lent.specs.Lent.{was, left};
 ghost use Rattle.slicefile.specs.Format.{slice_limit};
 ghost use Rattle.column.specs.File.{file_limit};
 ghost use Rattle.stream.specs.Feeding.{out_of_range, early, StaysInside, overfull, NextState, Takes, Feeds};
@@ -9,14 +10,14 @@ use column::{Checked, FILE_LIMIT, Verdict};
 use slicefile::{HEAD, SIZE_RECORD, SLICE_COUNT, SLICE_LIMIT, SLICE_RECORD, SLICE_TAG};
 
 // What a reader says: that more bytes are needed, or its verdict.
-#[derive(Drop)]
+#[derive(Clone, Copy)]
 pub enum Reply {
     More,
     Given(Verdict),
 }
 
 // What is handed from call to call besides the store: how many bytes stand in it, how many slices passed, and what was said last.
-#[derive(Drop)]
+#[derive(Clone, Copy)]
 pub struct Reader {
     pub len: usize,
     pub passed: usize,
@@ -24,7 +25,7 @@ pub struct Reader {
 }
 
 // What a call gives: its reply, and the reader for the next one.
-#[derive(Drop)]
+#[derive(Clone, Copy)]
 pub struct Fed {
     pub reply: Reply,
     pub reader: Reader,
@@ -61,7 +62,7 @@ fn overfull_reply(said: Reply) -> Reply
 // The reader after bytes that all stand in its store, while more may come.
 fn next_reader(bytes: &[u8], passed: usize) -> Reader
     requires { passed ≤ slice_limit }
-    ensures { NextState (was bytes) (length (was bytes)) passed false result }
+    ensures { NextState bytes.now (length bytes.now) passed false result }
 {
     let len = bytes.len();
     let progress = column::check_from(bytes, passed);
@@ -81,7 +82,7 @@ fn next_reader(bytes: &[u8], passed: usize) -> Reader
 // start.
 fn take_run(reader: Reader, store: &mut [u8], run: &[u8], last: bool) -> Reader
     requires { (length store.old ≡ file_limit) × (out_of_range reader ≡ false) }
-    ensures { Takes reader (was store) (was run) last result (left store) }
+    ensures { Takes reader store.old run.now last result store.new }
 {
     let at = reader.len;
     let passed = reader.passed;
@@ -117,7 +118,7 @@ fn take_run(reader: Reader, store: &mut [u8], run: &[u8], last: bool) -> Reader
 // Whether the bytes end in the body of the slice behind those that passed, and still do with so many more: then nothing more is certain.
 fn stays_inside(bytes: &[u8], passed: usize, more: usize) -> bool
     requires { passed ≤ slice_limit }
-    ensures { result ≡ true → StaysInside (was bytes) passed more }
+    ensures { result ≡ true → StaysInside bytes.now passed more }
 {
     let at = SIZE_RECORD + SLICE_RECORD * passed;
     if bytes.len() < at + HEAD {
@@ -142,7 +143,7 @@ fn stays_inside(bytes: &[u8], passed: usize, more: usize) -> bool
 // Takes a run. In the body of a slice, where most runs of a few bytes end, there is nothing to check.
 fn take(reader: Reader, store: &mut [u8], run: &[u8], last: bool) -> Reader
     requires { (length store.old ≡ file_limit) × (out_of_range reader ≡ false) }
-    ensures { Takes reader (was store) (was run) last result (left store) }
+    ensures { Takes reader store.old run.now last result store.new }
 {
     let at = reader.len;
     let passed = reader.passed;
@@ -170,7 +171,7 @@ fn kept(number: usize, reader: Reader) -> Fed
 
 // Gives a reader the next run, and whether the sender says that there is no more.
 pub fn feed(reader: Reader, store: &mut [u8], run: &[u8], last: bool) -> Fed
-    ensures { Feeds reader (was store) (was run) last result (left store) }
+    ensures { Feeds reader store.old run.now last result store.new }
 {
     if store.len() != FILE_LIMIT {
         return kept(10, reader);

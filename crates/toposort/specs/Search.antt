@@ -2,7 +2,7 @@
 -- place `pos` says; a component that is closed is cut off the end of the stack. `heads` has the places of the stack where its
 -- components begin, as far as they are known, `path` has the open signals, and `order` the done ones.
 use Rattle.std.specs.Prelude.{List, [], ℕ, ◌+◌, ◌-◌}
-use Rattle.lent.specs.Lent.{Held, Lent, was, left}
+use Rattle.lent.specs.Lent.{Held, Seen, Lent, Shown, left, shown}
 use Rattle.toposort.specs.declared.Scan.{Scan}
 
 pub record Search : Type 0 where
@@ -26,11 +26,11 @@ abbrev pub search_out : Lent → Lent → Lent → Lent → Lent → Lent → Se
 search_out marks pos stack heads path order = search_of (left marks) (left pos) (left stack) (left heads) (left path) (left order)
 
 -- the same of a function that holds no path and no order, and leaves what it holds as it was
-abbrev pub stack_in : Held → Held → Held → Held → Search
+abbrev pub stack_in : Seen → Seen → Seen → Seen → Search
 stack_in marks pos stack heads = search_of marks.now pos.now stack.now heads.now [] []
 
-abbrev pub stack_was : Lent → Lent → Lent → Lent → Search
-stack_was marks pos stack heads = search_of (was marks) (was pos) (was stack) (was heads) [] []
+abbrev pub stack_was : Shown → Shown → Shown → Shown → Search
+stack_was marks pos stack heads = search_of (shown marks) (shown pos) (shown stack) (shown heads) [] []
 
 -- a search that goes on with another smallest signal known to be on a loop
 abbrev pub with_best : Scan → ℕ → Scan

@@ -1,6 +1,7 @@
 // One path-based search for strongly connected components over a gate table, with no recursion.
+#![tactic(auto)]
+
 ghost use Rattle.std.specs.Prelude.{◌≡◌, ◌+◌, ◌*◌, ◌≤◌, ◌<◌, ◌⊎◌, length, get_or, set};
-ghost use Rattle.lent.specs.Lent.{was, left};
 ghost use Rattle.netlist.specs.Graph.{WellFormed};
 ghost use Rattle.netlist.specs.Settle.{reads_in};
 ghost use Rattle.netlist.specs.Table.{signal_limit, signal_count, IsTable, source_of, gate_of, FlopRows, FlopsFirst};
@@ -18,14 +19,14 @@ const LAST_MARK: u8 = 7;
 const DONE_MARK: u8 = 8;
 
 // The answer of the search for loops: the smallest signal on one, or none, with an order.
-#[derive(Drop)]
+#[derive(Clone, Copy)]
 pub enum Sorted {
     Loop(usize),
     Done,
 }
 
 // What a signal reads at one of its six places.
-#[derive(Drop)]
+#[derive(Clone, Copy)]
 pub enum Read {
     Signal(usize),
     Nothing,
@@ -79,7 +80,7 @@ fn place_count(n: usize, head: usize) -> usize
 // What signal x reads at place i, which its gate has, from its sixth source down to its first.
 fn read_at(table: &[u16], n: usize, x: usize, i: usize) -> Read
     requires { IsTable n table.now × (x < signal_count n) × (i < 6) × HasPlace (gate_of table.now n) x i }
-    ensures { result ≡ read_at (gate_of (was table) n) x i }
+    ensures { result ≡ read_at (gate_of table.now n) x i }
 {
     let at = ROW * x + (6 - i);
     let code = wide16(table[at]);
@@ -89,7 +90,7 @@ fn read_at(table: &[u16], n: usize, x: usize, i: usize) -> Read
 // The mark of signal x when it is opened, past the places that its gate doesn't have.
 fn first_mark(table: &[u16], n: usize, x: usize) -> u8
     requires { IsTable n table.now × (x < signal_count n) }
-    ensures { result ≡ first_mark n (head_of (was table) x) }
+    ensures { result ≡ first_mark n (head_of table.now x) }
 {
     let head = wide16(table[ROW * x]);
     let places = place_count(n, head);
@@ -98,7 +99,7 @@ fn first_mark(table: &[u16], n: usize, x: usize) -> u8
 
 // Where the search stands: the next root to try, how many signals are open, how many are on the stack, how many components
 // the stack has, how many signals are done, and the smallest signal known to be on a loop (the number of signals where none is).
-#[derive(Drop)]
+#[derive(Clone, Copy)]
 pub struct Scan {
     pub next: usize,
     pub depth: usize,
@@ -109,7 +110,7 @@ pub struct Scan {
 }
 
 // What the open signal on top asks for next.
-#[derive(Drop)]
+#[derive(Clone, Copy)]
 pub enum Turn {
     Close(usize),
     Leave,
@@ -134,7 +135,7 @@ fn next_turn(
 ) -> Turn
     requires table { IsTable n table.now × WellFormed (reads_in (gate_of table.now n)) (signal_count n) × AtPlaces (gate_of table.now n) marks.now }
     requires top_ready { TopReady (signal_count n) (stack_in marks pos stack heads) p top }
-    ensures { Wants (gate_of (was table) n) (signal_count n) (stack_was marks pos stack heads) p top result }
+    ensures { Wants (gate_of table.now n) (signal_count n) (stack_was marks pos stack heads) p top result }
 {
     let len = p.len;
     let last = p.count - 1;
@@ -184,7 +185,7 @@ fn open_signal(
     requires components { Components (gate_of table.now n) (signal_count n) (search_in marks pos stack heads path order) p }
     requires table { IsTable n table.now × (p.next < signal_count n) × (y < signal_count n) × (get_or marks.old y 0 ≡ 0) }
     requires above { Above (gate_of table.now n) stack.old p y }
-    ensures { Moved (gate_of (was table) n) (signal_count n) (was marks) (was order) p (search_out marks pos stack heads path order) result }
+    ensures { Moved (gate_of table.now n) (signal_count n) marks.old order.old p (search_out marks pos stack heads path order) result }
 {
     let len = p.len;
     let count = p.count;
@@ -213,7 +214,7 @@ fn close_top(
 ) -> Scan
     requires top_in_bounds { (top < length marks.old) × (p.done < length order.old) }
     requires top_lt_signal_limit { (top < signal_limit) × (p.done < signal_limit) × (0 < p.depth) }
-    ensures marks_value { (left marks ≡ set (was marks) top done_mark) × (left order ≡ set (was order) p.done top) }
+    ensures marks_value { (marks.new ≡ set marks.old top done_mark) × (order.new ≡ set order.old p.done top) }
     ensures value { result ≡ cut_to p len count }
 {
     let depth = p.depth;
@@ -231,7 +232,7 @@ fn close_top(
 // The top's read is done: its mark rises, and best is the smallest signal now known to be on a loop.
 fn raise_top(marks: &mut [u8], p: Scan, top: usize, best: usize) -> Scan
     requires { (top < length marks.old) × (top < signal_limit) × (get_or marks.old top 0 < done_mark) }
-    ensures { (left marks ≡ set (was marks) top (get_or (was marks) top 0 + 1)) × (result ≡ with_best p best) }
+    ensures { (marks.new ≡ set marks.old top (get_or marks.old top 0 + 1)) × (result ≡ with_best p best) }
 {
     marks[top] = marks[top] + 1;
     let mut q = p;
@@ -263,7 +264,7 @@ fn take_turn(
 ) -> Scan
     requires components { Components (gate_of table.now n) (signal_count n) (search_in marks pos stack heads path order) p }
     requires table { IsTable n table.now × (p.next < signal_count n) × IsTop path.old p top }
-    ensures { Moved (gate_of (was table) n) (signal_count n) (was marks) (was order) p (search_out marks pos stack heads path order) result }
+    ensures { Moved (gate_of table.now n) (signal_count n) marks.old order.old p (search_out marks pos stack heads path order) result }
 {
     let len = p.len;
     let count = p.count;
@@ -296,7 +297,7 @@ fn scan_step(
 ) -> Scan
     requires components { Components (gate_of table.now n) (signal_count n) (search_in marks pos stack heads path order) p }
     requires table { IsTable n table.now × (p.next < signal_count n) }
-    ensures { Moved (gate_of (was table) n) (signal_count n) (was marks) (was order) p (search_out marks pos stack heads path order) result }
+    ensures { Moved (gate_of table.now n) (signal_count n) marks.old order.old p (search_out marks pos stack heads path order) result }
 {
     let next = p.next;
     let depth = p.depth;
@@ -317,7 +318,7 @@ fn scan_step(
 fn list_flops(n: usize, marks: &mut [u8], order: &mut [u16])
     requires n_bound { (signal_count n ≤ signal_limit) × (length marks.old ≡ signal_count n) × (length order.old ≡ signal_count n) }
     requires unseen { Unseen marks.old }
-    ensures { FlopsListed (8 * n) (left marks) (left order) }
+    ensures { FlopsListed (8 * n) marks.new order.new }
 {
     let count = 8 * n;
     let mut q = 0;
@@ -342,7 +343,7 @@ fn scan_all(
 ) -> usize
     requires table { IsTable n table.now × WellFormed (reads_in (gate_of table.now n)) (signal_count n) }
     requires flop_rows { FlopRows n table.now × Fresh (signal_count n) (search_in marks pos stack heads path order) }
-    ensures { Least (gate_of (was table) n) (signal_count n) (left order) result × FlopsFirst n (left order) }
+    ensures { Least (gate_of table.now n) (signal_count n) order.new result × FlopsFirst n order.new }
 {
     let size = SLICE_SIGNALS * n;
     let flops = 8 * n;
@@ -365,7 +366,7 @@ fn scan_all(
 pub fn order_or_loop(table: &[u16], n: usize, order: &mut [u16]) -> Sorted
     requires table { IsTable n table.now × FlopRows n table.now × (length order.old ≡ signal_count n) }
     requires well_formed { WellFormed (reads_in (gate_of table.now n)) (signal_count n) }
-    ensures { OrderOrLoop (gate_of (was table) n) n (left order) result }
+    ensures { OrderOrLoop (gate_of table.now n) n order.new result }
 {
     let mut marks = [0u8; SIGNAL_LIMIT];
     let mut pos = [0u16; SIGNAL_LIMIT];

@@ -1,7 +1,8 @@
 // The walks along an order that settle or edit a value table. They go over the wires of a netlist: its inputs are laid on them first, and the value
 // table is read off them last.
+#![tactic(auto)]
+
 ghost use Rattle.std.specs.Prelude.{◌≡◌, ◌+◌, ◌*◌, ◌-◌, ◌≤◌, ◌<◌, length};
-ghost use Rattle.lent.specs.Lent.{was, left};
 ghost use Rattle.lent.specs.Put.{Put, PutAll};
 ghost use Rattle.netlist.specs.Rule.{bit_at};
 ghost use Rattle.netlist.specs.Settle.{is_marked};
@@ -16,7 +17,7 @@ use netlist::{FIRST_FLOP, ROW, SIGNAL_LIMIT, SIGNAL_WIRE, SLICE_SIGNALS, WIRE_LI
 // Copies bytes to a place.
 fn copy_to(to: &mut [u8], at: usize, from: &[u8])
     requires { at + length from.now ≤ length to.old }
-    ensures { PutAll (was from) at (was to) (left to) }
+    ensures { PutAll from.now at to.old to.new }
 {
     let mut i = 0;
     while i < from.len() {
@@ -29,7 +30,7 @@ fn copy_to(to: &mut [u8], at: usize, from: &[u8])
 fn lay_inputs(n: usize, inputs: &[u8], wires: &mut [u8])
     requires n_bound { (signal_count n ≤ signal_limit) × (length wires.old ≡ wire_count n (length inputs.now)) }
     requires bits { Bits inputs.now × Bits wires.old }
-    ensures { IsWires n (length (was inputs)) (left wires) × (inputs_on n (left wires) ≡ was inputs) }
+    ensures { IsWires n (length inputs.now) wires.new × (inputs_on n wires.new ≡ inputs.now) }
 {
     wires[0] = 0;
     wires[1] = 1;
@@ -39,7 +40,7 @@ fn lay_inputs(n: usize, inputs: &[u8], wires: &mut [u8])
 // Lays a value table on wires.
 fn lay_values(n: usize, m: usize, values: &[u8], wires: &mut [u8])
     requires { (signal_count n ≤ signal_limit) × (length values.now ≡ signal_count n) × Bits values.now × IsWires n m wires.old }
-    ensures { StillWires n m (was wires) (left wires) × (values_on n (left wires) ≡ was values) }
+    ensures { StillWires n m wires.old wires.new × (values_on n wires.new ≡ values.now) }
 {
     copy_to(wires, SIGNAL_WIRE, values);
 }
@@ -47,7 +48,7 @@ fn lay_values(n: usize, m: usize, values: &[u8], wires: &mut [u8])
 // Reads the value table off the wires.
 fn read_values(n: usize, wires: &[u8], values: &mut [u8])
     requires { (signal_count n ≤ signal_limit) × (input_wire n ≤ length wires.now) × (length values.old ≡ signal_count n) }
-    ensures { left values ≡ values_on n (was wires) }
+    ensures { values.new ≡ values_on n wires.now }
 {
     let end = SIGNAL_WIRE + SLICE_SIGNALS * n;
     copy_to(values, 0, &wires[SIGNAL_WIRE..end]);
@@ -56,7 +57,7 @@ fn read_values(n: usize, wires: &[u8], values: &mut [u8])
 // Puts the eight bits of a byte on wires, from a place on.
 fn spread_byte(wires: &mut [u8], at: usize, byte: u8)
     requires { at + 8 ≤ length wires.old }
-    ensures { Put (bit_at byte) at 8 (was wires) (left wires) }
+    ensures { Put (bit_at byte) at 8 wires.old wires.new }
 {
     let mut b: usize = 0;
     while b < 8 {
@@ -68,7 +69,7 @@ fn spread_byte(wires: &mut [u8], at: usize, byte: u8)
 // Puts the stored bits of n slices on the wires of the flip-flops.
 fn spread_flops(flops: &[u8], n: usize, m: usize, wires: &mut [u8])
     requires { (signal_count n ≤ signal_limit) × (length flops.now ≡ n) × IsWires n m wires.old }
-    ensures { FlopsOn n m (was flops) n (was wires) (left wires) }
+    ensures { FlopsOn n m flops.now n wires.old wires.new }
 {
     let mut s = 0;
     while s < n {
@@ -92,7 +93,7 @@ fn settle_wires(
     wires: &mut [u8],
 )
     requires { Walkable n m table.now order.now × (length flops.now ≡ n) × IsWires n m wires.old }
-    ensures { SettledOn n m (was table) (was contents) (was flops) (was wires) (left wires) }
+    ensures { SettledOn n m table.now contents.now flops.now wires.old wires.new }
 {
     spread_flops(flops, n, m, wires);
     let mut i = 8 * n;
@@ -117,7 +118,7 @@ pub fn settle_by(
 )
     requires walkable { Walkable n (length inputs.now) table.now order.now × (length flops.now ≡ n) × (length values.old ≡ signal_count n) }
     requires wires_len { (length wires.old ≡ wire_count n (length inputs.now)) × Bits inputs.now × Bits wires.old }
-    ensures { SettledBy n (was table) (was contents) (was flops) (was inputs) (left values) (left wires) }
+    ensures { SettledBy n table.now contents.now flops.now inputs.now values.new wires.new }
 {
     let m = inputs.len();
     lay_inputs(n, inputs, wires);
@@ -127,7 +128,7 @@ pub fn settle_by(
 
 // A mark that is set; past the end none is.
 fn is_marked(marks: &[u8], x: usize) -> bool
-    ensures { result ≡ is_marked (was marks) x }
+    ensures { result ≡ is_marked marks.now x }
 {
     if x < marks.len() { 0 < marks[x] } else { false }
 }
@@ -143,7 +144,7 @@ fn past(wire: usize, first: usize) -> usize
 fn number_reached(n: usize, number: u16, changed: &[u8], marks: &[u8]) -> bool
     requires n_bound { (signal_count n ≤ signal_limit) × (length changed.now ≡ input_room) × (length marks.now ≡ signal_limit) }
     requires number_bound { number < wire_count n input_room }
-    ensures { result ≡ source_reached (was changed) (was marks) (source_of n number) }
+    ensures { result ≡ source_reached changed.now marks.now (source_of n number) }
 {
     let wire = number as usize;
     let first_input = SIGNAL_WIRE + SLICE_SIGNALS * n;
@@ -158,7 +159,7 @@ fn number_reached(n: usize, number: u16, changed: &[u8], marks: &[u8]) -> bool
 fn any_reached(n: usize, numbers: &[u16], i: usize, k: usize, changed: &[u8], marks: &[u8]) -> bool
     requires n_bound { (signal_count n ≤ signal_limit) × (length changed.now ≡ input_room) × (length marks.now ≡ signal_limit) }
     requires k_in_bounds { (i + k ≤ length numbers.now) × NumbersFit n numbers.now i k }
-    ensures { result ≡ any_reached n (source_reached (was changed) (was marks)) (was numbers) i k }
+    ensures { result ≡ any_reached n (source_reached changed.now marks.now) numbers.now i k }
 {
     let mut found = false;
     let mut j = k;
@@ -180,7 +181,7 @@ fn gate_reached(
 ) -> bool
     requires table { IsTable n table.now × (x < signal_count n) × NumbersFit n table.now (row_length * x + 1) 6 }
     requires changed_len { (length changed.now ≡ input_room) × (length marks.now ≡ signal_limit) }
-    ensures { result ≡ gate_reached (was changed) (was edited) (was marks) (gate_of (was table) n x) }
+    ensures { result ≡ gate_reached changed.now edited.now marks.now (gate_of table.now n x) }
 {
     let at = ROW * x;
     let head = table[at] as usize;
@@ -215,7 +216,7 @@ fn edit_wires(
     wires: &mut [u8],
 )
     requires { Walkable n m table.now order.now × IsWires n m wires.old × (m ≤ input_room) × (length changed.now ≡ input_room) }
-    ensures { EditedOn n m (was table) (was contents) (was changed) (was edited) (was wires) (left wires) }
+    ensures { EditedOn n m table.now contents.now changed.now edited.now wires.old wires.new }
 {
     let mut marks = [0u8; SIGNAL_LIMIT];
     let mut i = 8 * n;
@@ -246,7 +247,7 @@ pub fn edit_by(
 )
     requires walkable { Walkable n (length inputs.now) table.now order.now × (length values.old ≡ signal_count n) }
     requires inputs_len_bound { (length inputs.now ≤ input_room) × (length changed.now ≡ input_room) × Bits inputs.now × Bits values.old }
-    ensures { EditedBy n (was table) (was contents) (was inputs) (was changed) (was edited) (was values) (left values) }
+    ensures { EditedBy n table.now contents.now inputs.now changed.now edited.now values.old values.new }
 {
     let m = inputs.len();
     let count = SIGNAL_WIRE + SLICE_SIGNALS * n + m;
