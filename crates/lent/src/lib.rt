@@ -1,3 +1,2 @@
 // What contracts say of a lent slice: definitions only, no code.
 #![tactic(auto)]
-

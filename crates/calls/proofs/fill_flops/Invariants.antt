@@ -1,0 +1,19 @@
+-- `calls::fill_flops` meets its contract. The loop's invariant: the bytes before s are filled. Assumes nothing.
+use mathlib.Core.Path.{◌≡◌, ◌∙◌, sym, ap}
+use mathlib.Core.List.{List}
+use Prim.Native.Nat.{ℕ, ◌≤◌, ◌-◌}
+use native.Mathlib.Omega.{arith}
+use borrow.Author.Rules.{rules}
+use lib.ListN.{length, length-set}
+use Rattle.slicefile.specs.Format.{power_up_bits}
+use Rattle.column.specs.Clock.{power_up}
+use Rattle.column.specs.File.{slice_body}
+use Rattle.column.proofs.SoundLaws.{SoundFile, sound_file, body_length_lem}
+use Rattle.slicefile.proofs.Filling.{Filled, filled_next, filled_all}
+use Rattle.calls.proofs.fill_flops.Given as goal
+
+abbrev pub invariant-loop-s : goal.invariant-loop-s
+invariant-loop-s l = (l.s ≤ l.n) × (length l.flops ≡ l.n) × Filled (bits l.file) l.s l.flops
+
+abbrev pub decreases-loop-s : goal.decreases-loop-s
+decreases-loop-s l = l.n - l.s

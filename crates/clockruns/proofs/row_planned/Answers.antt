@@ -1,0 +1,58 @@
+-- `clockruns::row_planned` meets its contract. Assumes nothing.
+use mathlib.Core.Path.{◌≡◌, ◌∙◌, refl, sym, ap}
+use Prim.Native.Nat.{ℕ, ◌*◌}
+use native.Mathlib.Nat.{mul-div-le}
+use native.Mathlib.Omega.{arith}
+use borrow.Author.Rules.{rules}
+use lib.ListN.{length}
+use Rattle.column.specs.Clock.{state_of}
+use Rattle.plan.proofs.Plans.{edges_long}
+use Rattle.buffers.proofs.Passed.{settle_passed}
+use Rattle.calls.specs.Calls.{plan_done}
+use Rattle.calls.proofs.Calls.{plan_refused_by}
+use Rattle.simulator.specs.Running.{plan_refusal}
+use Rattle.clockruns.specs.Rows.{clock_count}
+use Rattle.clockruns.proofs.row_planned.Goals as goal
+use Rattle.clockruns.proofs.row_planned.Goals.{After-clock_count-k, After-settle_refusal-number, Start}
+
+abbrev start : After-clock_count-k → Start
+start k = k
+
+abbrev counted : After-settle_refusal-number → After-clock_count-k
+counted k = k
+
+-- the refusal by the plan
+refusal : (k : After-settle_refusal-number) → let a = (start (counted k)).args in
+    k.settle_refusal-number.result
+    ≡ plan_refusal a.plan.now a.n (a.m * clock_count a.inputs.now a.m) (state_of a.contents-1.now a.flops-1.now) a.inputs.now a.values-1.now
+refusal k = rw (k.edges-edges.ensures, (counted k).clock_count-k.ensures) at k.settle_refusal-number.ensures
+
+pub overflow_mul-m : goal.overflow_mul-m
+overflow_mul-m c =
+    let b = start c in
+    omega (arith, mul-div-le (length b.args.inputs.now) b.args.m, ap (λ (j : ℕ). b.args.m * j) c.clock_count-k.ensures)
+
+pub settle_refusal-number-requires : goal.settle_refusal-number-requires
+settle_refusal-number-requires c =
+    let e = c in
+    let b = start e in
+    (b.requires.0.few, edges_long b.requires.0 e.edges-edges.ensures)
+
+pub returns-then-number-ne0 : goal.returns-then-number-ne0
+returns-then-number-ne0 c = plan_refused_by _ (refusal c) c.if-number-ne0.true (refl, refl)
+
+pub run_clocks-requires : goal.run_clocks-requires
+run_clocks-requires c =
+    let e = c in
+    let k = e in
+    let b = start (counted k) in
+    let p = settle_passed _ _ _ _ _ _ (sym (refusal k) ∙ e.if-number-ne0.false) in
+    let l = p.0 in
+    (b.requires, ((l.contents-1, l.flops-1, l.values-1), (l.inputs ∙ ap (λ (j : ℕ). b.args.m * j) (sym (counted k).clock_count-k.ensures), p.1)))
+
+pub returns : goal.returns
+returns c =
+    let d = c in
+    let e = d in
+    let k = e in
+    plan_done (sym (refusal k) ∙ e.if-number-ne0.false) (rw (counted k).clock_count-k.ensures at d.run_clocks.ensures)

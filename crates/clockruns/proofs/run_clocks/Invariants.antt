@@ -1,0 +1,14 @@
+-- `clockruns::run_clocks` meets its contract. The loop's invariant: i clocks have run, and the buffers keep their lengths. Assumes nothing.
+use mathlib.Core.Path.{◌≡◌, ◌∙◌}
+use Prim.Native.Nat.{◌+◌, ◌*◌, ◌-◌, ◌≤◌, ◌<◌}
+use native.Mathlib.Omega.{arith}
+use borrow.Author.Rules.{rules}
+use lib.ListN.{length}
+use Rattle.clockruns.proofs.Extending.{RunTo, run_start, part_fits, part_is, part_long, part_bits, plan_next}
+use Rattle.clockruns.proofs.run_clocks.Given as goal
+
+abbrev pub invariant-loop-i : goal.invariant-loop-i
+invariant-loop-i l = (l.i ≤ l.k) × RunTo l.plan l.n l.m l.i l.initial.contents l.contents l.initial.flops l.flops l.inputs l.initial.values l.values l.initial.wires l.wires
+
+abbrev pub decreases-loop-i : goal.decreases-loop-i
+decreases-loop-i l = l.k - l.i

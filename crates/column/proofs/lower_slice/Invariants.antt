@@ -1,0 +1,18 @@
+-- `column::lower_slice` meets its contract. The loop's invariant: the signals before signal k of the slice have their rows in the table. Assumes nothing.
+use mathlib.Core.Path.{◌≡◌, ◌∙◌, sym, ap}
+use Prim.Native.Nat.{◌+◌, ◌*◌, ◌-◌, ◌≤◌}
+use native.Mathlib.Omega.{arith}
+use borrow.Author.Rules.{rules}
+use lib.ListN.{length}
+use Rattle.netlist.specs.Table.{slice_signals, table_length}
+use Rattle.slicefile.specs.Format.{HoldsSlice}
+use Rattle.column.specs.Compile.{LoweredTo}
+use Rattle.column.proofs.Netlist.{gate_of_slice, lower_next}
+use Rattle.column.proofs.SoundLaws.{SoundFile, sound_file, body_length_lem}
+use Rattle.column.proofs.lower_slice.Given as goal
+
+abbrev pub invariant-loop-k : goal.invariant-loop-k
+invariant-loop-k l = (l.k ≤ slice_signals) × (length l.table ≡ table_length l.n) × LoweredTo l.file l.n l.table (slice_signals * l.s + l.k)
+
+abbrev pub decreases-loop-k : goal.decreases-loop-k
+decreases-loop-k l = slice_signals - l.k

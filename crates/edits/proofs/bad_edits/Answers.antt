@@ -1,0 +1,35 @@
+use mathlib.Core.Path.{◌≡◌, refl}
+use mathlib.Core.Bool.{◌||◌}
+use Prim.Native.Nat.{◌-◌, ◌≤◌}
+use borrow.Author.Rules.{rules}
+use borrow.Author.Tests.{lt-ltb, le-ltb}
+use Rattle.editlist.specs.Listed.{edit_limit, edits_from, edits_in}
+use Rattle.editlist.proofs.Listing.{edits_long, edits_start}
+use Rattle.buffers.specs.Buffers.{bad_table_by}
+use Rattle.edits.specs.Edits.{any_bad, bad_edits}
+use Rattle.edits.proofs.Checking.{bad_next, bad_end}
+use Rattle.edits.proofs.bad_edits.Goals as goal
+
+pub returns-then-count-gt-EDIT_LIMIT : goal.returns-then-count-gt-EDIT_LIMIT
+unfolding bad_edits
+returns-then-count-gt-EDIT_LIMIT c =
+    let a = c.args in
+    rw (edits_long a.words.now 0 a.count, lt-ltb edit_limit a.count c.if-count-gt-EDIT_LIMIT.true) refl
+
+pub loop-i-init : goal.loop-i-init
+loop-i-init c =
+    let a = c.args in
+    (search rules, rw (edits_start a.words.now a.count) refl)
+
+pub loop-i-preserved : goal.loop-i-preserved
+loop-i-preserved c =
+    let l = c in
+    let a = l.args in
+    (search rules, bad_next _ _ _ l.loop-i.i a.count l.loop-i.found l.loop-i.invariant.1 (search rules) c.bad_edit-found.ensures)
+
+pub returns : goal.returns
+unfolding bad_edits
+returns c =
+    let a = c.args in
+    let l = c.loop-i in
+    rw (edits_long a.words.now 0 a.count, le-ltb edit_limit a.count c.if-count-gt-EDIT_LIMIT.false) (bad_end _ _ _ l.i a.count l.found l.invariant.1 (search rules))

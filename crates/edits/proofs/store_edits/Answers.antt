@@ -1,0 +1,35 @@
+use Prim.Native.Nat.{◌-◌, ◌≤◌}
+use native.Mathlib.Omega.{arith}
+use borrow.Author.Rules.{rules}
+use Rattle.edits.specs.Storing.{store}
+use Rattle.edits.proofs.Storing.{Before, before_first, next_there, before_next, before_end}
+use Rattle.edits.proofs.store_edits.Goals as goal
+use Rattle.edits.proofs.store_edits.Goals.{At-loop-i, Start}
+
+-- where it began
+abbrev start : At-loop-i → Start
+start l = l
+
+pub loop-i-init : goal.loop-i-init
+loop-i-init c =
+    let a = c.args in
+    (search rules, before_first a.words.now a.count _ c.requires.all_storable)
+
+pub store_edit-requires : goal.store_edit-requires
+store_edit-requires c =
+    let l = c in
+    let a = (start l).args in
+    let same = l.loop-i.invariant.1.same in
+    let marks = (start l).requires.marks in
+    (next_there a.words.now a.count _ l.loop-i.i l.loop-i.invariant.1 (search rules), (omega (arith, same.inputs-1, same.changed-1, marks.0), omega (arith, same.contents-1, same.edited-1, marks.1)))
+
+pub loop-i-preserved : goal.loop-i-preserved
+loop-i-preserved c =
+    let l = c in
+    let a = (start l).args in
+    (search rules, before_next a.words.now a.count _ l.loop-i.i l.loop-i.invariant.1 (search rules) (record { contents = search rules; inputs = search rules; changed = search rules; edited = search rules }) c.store_edit.ensures)
+
+pub returns : goal.returns
+returns c =
+    let a = (start c).args in
+    before_end a.words.now a.count _ c.loop-i.i c.loop-i.invariant.1 (search rules)

@@ -1,0 +1,18 @@
+-- `evaluation::number_on` meets its contract. The loop goes from the highest source down: its number is that on the sources from place j. The measure is j.
+-- Assumes nothing.
+use mathlib.Core.Path.{◌≡◌}
+use Prim.Native.Nat.{◌+◌, ◌-◌, ◌^◌, ◌≤◌, ◌<◌}
+use native.Mathlib.Nat.{lt_of_lt_of_le}
+use native.Mathlib.Omega.{arith}
+use borrow.Author.Rules.{rules}
+use lib.Dec.{lit<}
+use lib.Pow.{pow_mono}
+use Rattle.evaluation.specs.Numbers.{number_on}
+use Rattle.evaluation.proofs.Numbers.{number_more, small_more}
+use Rattle.evaluation.proofs.number_on.Given as goal
+
+abbrev pub invariant-loop-j : goal.invariant-loop-j
+invariant-loop-j l = (l.j ≤ l.k) × (l.number ≡ number_on l.wires l.numbers (l.i + l.j) (l.k - l.j)) × (l.number < 2 ^ (l.k - l.j))
+
+abbrev pub decreases-loop-j : goal.decreases-loop-j
+decreases-loop-j l = l.j

@@ -1,0 +1,33 @@
+-- `recordcalls::record_refusal` meets its contract: a header that is not refused is followed by a whole body. Assumes nothing.
+use mathlib.Core.Path.{◌≡◌, ◌∙◌, sym}
+use native.Mathlib.Omega.{arith}
+use borrow.Author.Rules.{rules}
+use borrow.Author.Tests.{lt-ltb, le-ltb}
+use Rattle.slicefile.specs.Format.{slice_tag}
+use Rattle.framing.specs.Framing.{header_refusal}
+use Rattle.rules.proofs.Refusals.{or_else_first}
+use Rattle.framing.proofs.RecordLaws.{header_whole}
+use Rattle.recordcalls.specs.Calls.{record_refusal}
+use Rattle.recordcalls.proofs.record_refusal.Goals as goal
+use Rattle.recordcalls.proofs.record_refusal.Goals.{Else-h-ne0}
+
+-- the header is not refused
+accepted : (c : Else-h-ne0) → header_refusal slice_tag c.args.s.now ≡ 0
+accepted c = sym c.header_refusal-h.ensures ∙ c.if-h-ne0.false
+
+pub returns-then-h-ne0 : goal.returns-then-h-ne0
+unfolding record_refusal
+returns-then-h-ne0 c =
+    let e = c.header_refusal-h.ensures in
+    e ∙ or_else_first _ _ (λ z. c.if-h-ne0.true (e ∙ z))
+
+pub overflow_cast-number : goal.overflow_cast-number
+overflow_cast-number c = omega (arith, c.type_inv.body 0)
+
+pub returns-then-n-number : goal.returns-then-n-number
+unfolding record_refusal
+returns-then-n-number c = simp (accepted c, le-ltb _ _ c.if-n-number.true)
+
+pub returns : goal.returns
+unfolding record_refusal
+returns c = c.body_refusal.ensures ∙ sym (simp (accepted c, lt-ltb _ _ c.if-n-number.false))

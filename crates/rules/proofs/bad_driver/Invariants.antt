@@ -1,0 +1,19 @@
+-- `rules::bad_driver` meets its contract. The loop's invariant: `found` says whether a pin before p has no driver. Assumes nothing.
+use mathlib.Core.Path.{◌≡◌, ◌∙◌, refl, ap}
+use mathlib.Core.Bool.{Bool}
+use mathlib.Core.List.{List}
+use Prim.Native.Nat.{ℕ, ◌≤◌, ◌-◌}
+use native.Mathlib.Omega.{arith}
+use borrow.Author.Rules.{rules}
+use Rattle.slicefile.specs.Lists.{any_below}
+use Rattle.slicefile.specs.Format.{pin_count, pin_code}
+use Rattle.slicefile.specs.Driver.{driver_of}
+use Rattle.rules.specs.Rules.{missing, bad_driver}
+use Rattle.slicefile.proofs.Tests.{any_next}
+use Rattle.rules.proofs.bad_driver.Given as goal
+
+abbrev pub invariant-loop-p : goal.invariant-loop-p
+invariant-loop-p l = (l.p ≤ pin_count) × (l.found ≡ any_below l.p (undriven l.n l.m l.body))
+
+abbrev pub decreases-loop-p : goal.decreases-loop-p
+decreases-loop-p l = pin_count - l.p

@@ -1,0 +1,38 @@
+-- `simulator::clock_planned` meets its contract. Assumes nothing.
+use mathlib.Core.Path.{◌≡◌, ◌∙◌, refl, sym, ap}
+use borrow.Author.Rules.{rules}
+use Rattle.netlist.specs.Table.{wire_count}
+use Rattle.column.specs.Clock.{state_of}
+use Rattle.plan.proofs.Plans.{edges_long}
+use Rattle.buffers.proofs.Passed.{settle_passed}
+use Rattle.calls.specs.Calls.{plan_done}
+use Rattle.calls.proofs.Calls.{plan_refused_by}
+use Rattle.simulator.specs.Running.{plan_refusal}
+use Rattle.simulator.proofs.clock_planned.Goals as goal
+use Rattle.simulator.proofs.clock_planned.Goals.{After-settle_refusal-number}
+
+-- the refusal by the plan
+refusal : (k : After-settle_refusal-number) → let a = k.args in
+    k.settle_refusal-number.result ≡ plan_refusal a.plan.now a.n a.m (state_of a.contents-1.now a.flops-1.now) a.inputs.now a.values-1.now
+refusal k = rw k.edges-edges.ensures at k.settle_refusal-number.ensures
+
+pub settle_refusal-number-requires : goal.settle_refusal-number-requires
+settle_refusal-number-requires c = let b = c in (b.requires.0.few, edges_long b.requires.0 c.edges-edges.ensures)
+
+pub returns-then-number-ne0 : goal.returns-then-number-ne0
+returns-then-number-ne0 c = plan_refused_by _ (refusal c) c.if-number-ne0.true (refl, refl)
+
+pub clock_by-requires : goal.clock_by-requires
+clock_by-requires c =
+    let e = c in
+    let k = e in
+    let b = k in
+    let p = settle_passed _ _ _ _ _ _ (sym (refusal k) ∙ e.if-number-ne0.false) in
+    let l = p.0 in
+    ((rw l.inputs b.requires.0, b.requires.1 ∙ ap (wire_count b.args.n) (sym l.inputs)), ((l.contents-1, l.flops-1, l.values-1), (p.1, b.requires.2)))
+
+pub returns : goal.returns
+returns c =
+    let d = c in
+    let e = d in
+    plan_done (sym (refusal e) ∙ e.if-number-ne0.false) (d.clock_by.ensures.moves, d.clock_by.ensures.settled)

@@ -1,0 +1,66 @@
+use Prim.Native.Nat.{◌*◌, ◌≤◌}
+use mathlib.Core.Path.{sym, ◌∙◌}
+use native.Mathlib.Omega.{arith}
+use Rattle.netlist.specs.Table.{signal_count, gate_of, FlopsFirst}
+use Rattle.toposort.specs.Search.{search_of}
+use Rattle.toposort.specs.Components.{Components, remaining}
+use Rattle.toposort.proofs.Reading.{flop_reads}
+use Rattle.toposort.proofs.Opening.{all_judged, start}
+use Rattle.toposort.proofs.scan_all.Goals as goal
+
+pub list_flops-requires : goal.list_flops-requires
+list_flops-requires c =
+    let b = c in
+    let f = b.requires.flop_rows.1 in
+    ((b.requires.table.0.0, f.0.marks-1, f.0.order-1), f.1)
+
+pub loop-p-init : goal.loop-p-init
+loop-p-init c =
+    let l = c in
+    let b = l in
+    let f = b.requires.flop_rows.1.0 in
+    let k = l.list_flops.auto.1 in
+    let e = l.list_flops.ensures in (
+      start _ _ _ b.requires.table.1
+          (record { marks = k.0 ∙ f.marks-1; pos = f.pos-1; stack = f.stack-1; heads = f.heads-1; path = f.path-1; order = k.1.0 ∙ f.order-1 })
+          e (flop_reads _ _ b.requires.flop_rows.0),
+      e.first,
+      omega arith,
+    )
+
+pub scan_step-p-requires : goal.scan_step-p-requires
+scan_step-p-requires c =
+    let t = c in
+    let l = t in
+    (l.loop-p.invariant.0, ((begin l).requires.table.0, t.loop-p-test.true))
+
+pub loop-p-smaller : goal.loop-p-smaller
+loop-p-smaller c = c.scan_step-p.ensures.1
+
+pub loop-p-preserved : goal.loop-p-preserved
+loop-p-preserved c =
+    let k = c in
+    let i = k.loop-p.invariant in
+    let m = k.scan_step-p.ensures in
+    (m.0, λ q l. m.2.1 q (omega arith) ∙ i.1 q l, omega arith)
+
+pub shape_of-marks : goal.shape_of-marks
+shape_of-marks c = c.loop-p.invariant.0.sized.marks-1 ∙ sym (begin c).requires.flop_rows.1.0.marks-1
+
+pub shape_of-pos : goal.shape_of-pos
+shape_of-pos c = c.loop-p.invariant.0.sized.pos-1 ∙ sym (begin c).requires.flop_rows.1.0.pos-1
+
+pub shape_of-stack : goal.shape_of-stack
+shape_of-stack c = c.loop-p.invariant.0.sized.stack-1 ∙ sym (begin c).requires.flop_rows.1.0.stack-1
+
+pub shape_of-heads : goal.shape_of-heads
+shape_of-heads c = c.loop-p.invariant.0.sized.heads-1 ∙ sym (begin c).requires.flop_rows.1.0.heads-1
+
+pub shape_of-path : goal.shape_of-path
+shape_of-path c = c.loop-p.invariant.0.sized.path-1 ∙ sym (begin c).requires.flop_rows.1.0.path-1
+
+pub shape_of-order : goal.shape_of-order
+shape_of-order c = c.loop-p.invariant.0.sized.order-1 ∙ sym (begin c).requires.flop_rows.1.0.order-1
+
+pub returns : goal.returns
+returns c = let i = c.loop-p.invariant in (all_judged i.0 (omega (arith, i.0.next_le, c.loop-p-test.false)), i.1)

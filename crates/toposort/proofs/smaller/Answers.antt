@@ -1,0 +1,11 @@
+-- `toposort::smaller` meets its contract. Assumes nothing.
+use mathlib.Core.Path.{refl}
+use mathlib.Core.Logic.{inl, inr}
+use native.Mathlib.Omega.{arith}
+use Rattle.toposort.proofs.smaller.Goals as goal
+
+pub returns-then-a-b : goal.returns-then-a-b
+returns-then-a-b c = (omega arith, omega arith, inr refl)
+
+pub returns : goal.returns
+returns c = (omega arith, omega arith, inl refl)
