@@ -29,7 +29,7 @@ any_from marks (y ∷ ys) e = step (any_from marks ys) (or_cases (is_marked mark
     step rest (inl m) = (y, Memᴰ.head refl, m)
     step rest (inr m) = let w = rest m in (w.0, Memᴰ.tail w.1, w.2)
 
-pub any_to : (marks : List ℕ) {ys : List ℕ} {y : ℕ} → Memᴰ y ys → is_marked marks y ≡ true → any_marked marks ys ≡ true
+pub any_to : (marks : List ℕ) {y : ℕ} {ys : List ℕ} → Memᴰ y ys → is_marked marks y ≡ true → any_marked marks ys ≡ true
 any_to marks (Memᴰ.head {x = z} {xs = zs} e) m =
     or_left (is_marked marks z) (any_marked marks zs) (rw e at m)
 any_to marks (Memᴰ.tail {x = z} {xs = zs} r) m =

@@ -9,10 +9,8 @@ use lib.ListN.{length, get_or}
 use Rattle.slicefile.specs.Lists.{any_below}
 use Rattle.slicefile.proofs.Tests.{any_next}
 use Rattle.buffers.specs.Buffers.{bad_bytes}
+use Rattle.buffers.proofs.bad_bytes.Invariants.{bad}
 use Rattle.buffers.proofs.bad_bytes.Goals as goal
-
-abbrev bad : List ℕ → ℕ → Bool
-bad bytes i = ltb 1 (get_or bytes i 0)
 
 pub loop-i-init : goal.loop-i-init
 unfolding any_below

@@ -12,6 +12,9 @@ use Rattle.slicefile.proofs.Tests.{any_next}
 use Rattle.buffers.specs.Buffers.{bad_bytes}
 use Rattle.buffers.proofs.bad_bytes.Given as goal
 
+abbrev pub bad : List ℕ → ℕ → Bool
+bad bytes i = ltb 1 (get_or bytes i 0)
+
 abbrev pub invariant-loop-i : goal.invariant-loop-i
 invariant-loop-i l = (l.i ≤ length l.bytes) × (l.found ≡ any_below l.i (bad l.bytes))
 

@@ -8,10 +8,8 @@ use lib.ListN.{length, get_or}
 use Rattle.slicefile.specs.Lists.{any_below}
 use Rattle.slicefile.proofs.Tests.{any_next}
 use Rattle.buffers.specs.Buffers.{bad_word_by, bad_words_by}
+use Rattle.buffers.proofs.bad_words.Invariants.{bad}
 use Rattle.buffers.proofs.bad_words.Goals as goal
-
-abbrev bad : List ℕ → List ℕ → ℕ → Bool
-bad edges contents t = bad_word_by edges t (get_or contents t 0)
 
 pub loop-t-init : goal.loop-t-init
 unfolding any_below

@@ -11,6 +11,9 @@ use Rattle.slicefile.proofs.Tests.{any_next}
 use Rattle.buffers.specs.Buffers.{bad_word_by, bad_words_by}
 use Rattle.buffers.proofs.bad_words.Given as goal
 
+abbrev pub bad : List ℕ → List ℕ → ℕ → Bool
+bad edges contents t = bad_word_by edges t (get_or contents t 0)
+
 abbrev pub invariant-loop-t : goal.invariant-loop-t
 invariant-loop-t l = (l.t ≤ length l.contents) × (l.found ≡ any_below l.t (bad l.edges l.contents))
 

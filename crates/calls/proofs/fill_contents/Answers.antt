@@ -9,12 +9,9 @@ use Rattle.column.specs.Clock.{power_up}
 use Rattle.column.specs.File.{slice_body}
 use Rattle.column.proofs.SoundLaws.{SoundFile, sound_file, body_length_lem}
 use Rattle.slicefile.proofs.Filling.{Filled, filled_next, filled_all}
+use Rattle.calls.proofs.fill_contents.Invariants.{word}
 use Rattle.calls.proofs.fill_contents.Goals as goal
 use Rattle.calls.proofs.fill_contents.Goals.{Start}
-
--- the contents of table t
-abbrev word : List ℕ → ℕ → ℕ
-word file t = contents_word (slice_body file (t / 4)) (t % 4)
 
 fine : (c : Start) → SoundFile c.args.file.now c.args.n c.args.m
 fine c = sound_file c.args.file.now c.requires.0
@@ -23,7 +20,7 @@ pub loop-t-init : goal.loop-t-init
 loop-t-init c = (search rules, c.requires.1, λ i l. absurd (omega arith))
 
 pub overflow_mul-n : goal.overflow_mul-n
-overflow_mul-n c = omega (arith, (fine c).slices_fit)
+overflow_mul-n c = omega (arith, (fine c.before.before.before.before).slices_fit)
 
 pub slice_body-body-requires : goal.slice_body-body-requires
 slice_body-body-requires c = (c.requires.0, omega arith)

@@ -12,6 +12,10 @@ use Rattle.column.proofs.SoundLaws.{SoundFile, sound_file, body_length_lem}
 use Rattle.slicefile.proofs.Filling.{Filled, filled_next, filled_all}
 use Rattle.calls.proofs.fill_contents.Given as goal
 
+-- the contents of table t
+abbrev pub word : List ℕ → ℕ → ℕ
+word file t = contents_word (slice_body file (t / 4)) (t % 4)
+
 abbrev pub invariant-loop-t : goal.invariant-loop-t
 invariant-loop-t l = (l.t ≤ 4 * l.n) × (length l.contents ≡ 4 * l.n) × Filled (word l.file) l.t l.contents
 

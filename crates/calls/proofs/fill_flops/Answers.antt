@@ -9,12 +9,9 @@ use Rattle.column.specs.Clock.{power_up}
 use Rattle.column.specs.File.{slice_body}
 use Rattle.column.proofs.SoundLaws.{SoundFile, sound_file, body_length_lem}
 use Rattle.slicefile.proofs.Filling.{Filled, filled_next, filled_all}
+use Rattle.calls.proofs.fill_flops.Invariants.{bits}
 use Rattle.calls.proofs.fill_flops.Goals as goal
 use Rattle.calls.proofs.fill_flops.Goals.{Start}
-
--- the power-up bits of slice s
-abbrev bits : List ℕ → ℕ → ℕ
-bits file s = power_up_bits (slice_body file s)
 
 fine : (c : Start) → SoundFile c.args.file.now c.args.n c.args.m
 fine c = sound_file c.args.file.now c.requires.0

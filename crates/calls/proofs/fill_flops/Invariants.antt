@@ -12,6 +12,10 @@ use Rattle.column.proofs.SoundLaws.{SoundFile, sound_file, body_length_lem}
 use Rattle.slicefile.proofs.Filling.{Filled, filled_next, filled_all}
 use Rattle.calls.proofs.fill_flops.Given as goal
 
+-- the power-up bits of slice s
+abbrev pub bits : List ℕ → ℕ → ℕ
+bits file s = power_up_bits (slice_body file s)
+
 abbrev pub invariant-loop-s : goal.invariant-loop-s
 invariant-loop-s l = (l.s ≤ l.n) × (length l.flops ≡ l.n) × Filled (bits l.file) l.s l.flops
 

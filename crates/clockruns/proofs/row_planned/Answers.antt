@@ -16,10 +16,10 @@ use Rattle.clockruns.proofs.row_planned.Goals as goal
 use Rattle.clockruns.proofs.row_planned.Goals.{After-clock_count-k, After-settle_refusal-number, Start}
 
 abbrev start : After-clock_count-k → Start
-start k = k
+start k = k.before.before.before.before.before.before.before
 
 abbrev counted : After-settle_refusal-number → After-clock_count-k
-counted k = k
+counted k = k.before.before.before.before.before
 
 -- the refusal by the plan
 refusal : (k : After-settle_refusal-number) → let a = (start (counted k)).args in
@@ -29,17 +29,17 @@ refusal k = rw (k.edges-edges.ensures, (counted k).clock_count-k.ensures) at k.s
 
 pub overflow_mul-m : goal.overflow_mul-m
 overflow_mul-m c =
-    let b = start c in
+    let b = start c.before.before in
     omega (arith, mul-div-le (length b.args.inputs.now) b.args.m, ap (λ (j : ℕ). b.args.m * j) c.clock_count-k.ensures)
 
 pub settle_refusal-number-requires : goal.settle_refusal-number-requires
 settle_refusal-number-requires c =
     let e = c in
-    let b = start e in
+    let b = start e.before in
     (b.requires.0.few, edges_long b.requires.0 e.edges-edges.ensures)
 
 pub returns-then-number-ne0 : goal.returns-then-number-ne0
-returns-then-number-ne0 c = plan_refused_by _ (refusal c) c.if-number-ne0.true (refl, refl)
+returns-then-number-ne0 c = plan_refused_by _ (refusal c.before.before) c.if-number-ne0.true (refl, refl)
 
 pub run_clocks-requires : goal.run_clocks-requires
 run_clocks-requires c =

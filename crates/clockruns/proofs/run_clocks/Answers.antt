@@ -8,12 +8,12 @@ use Rattle.clockruns.proofs.run_clocks.Goals as goal
 use Rattle.clockruns.proofs.run_clocks.Goals.{At-loop-i, In-loop-i, Start}
 
 abbrev start : At-loop-i → Start
-start l = l
+start l = l.before.before.before.before.before.before.before
 
 -- the inputs of this clock are there
-fits : (c : In-loop-i) → let a = (start c).args in a.m * c.loop-i.i + a.m ≤ length a.inputs.now
+fits : (c : In-loop-i) → let a = (start c.before.before).args in a.m * c.loop-i.i + a.m ≤ length a.inputs.now
 fits c =
-    let b = start c in
+    let b = start c.before.before in
     part_fits b.args.inputs.now b.args.m b.args.k c.loop-i.i b.requires.inputs_len.0 (omega arith)
 
 pub loop-i-init : goal.loop-i-init
@@ -23,7 +23,7 @@ pub overflow_mul-at : goal.overflow_mul-at
 overflow_mul-at c = omega (arith, fits c)
 
 pub overflow_add-at : goal.overflow_add-at
-overflow_add-at c = omega (arith, fits c)
+overflow_add-at c = omega (arith, fits c.before.before.before)
 
 pub clock_by-requires : goal.clock_by-requires
 clock_by-requires c =

@@ -19,11 +19,11 @@ ended c = end_header _ (c.is_end.ensures.0 c.if-is_end.true)
 
 pub returns-then-s-gt-HEAD : goal.returns-then-s-gt-HEAD
 unfolding check_end
-returns-then-s-gt-HEAD c = simp (ended c, lt-ltb _ _ c.if-s-gt-HEAD.true)
+returns-then-s-gt-HEAD c = simp (ended c.before.before, lt-ltb _ _ c.if-s-gt-HEAD.true)
 
 pub returns-then-is_end : goal.returns-then-is_end
 unfolding check_end
-returns-then-is_end c = simp (ended c, le-ltb _ _ c.if-s-gt-HEAD.false)
+returns-then-is_end c = simp (ended c.before.before, le-ltb _ _ c.if-s-gt-HEAD.false)
 
 pub returns : goal.returns
 unfolding check_end

@@ -29,7 +29,7 @@ after : (c : Else-r-ne0)
     Stands a.file.now a.passed (at.s + 1) (at.at + record_length slice_tag)
 after c =
     let at = c.loop-s in
-    slice_good _ at.invariant.2 (search rules) (refusal c) c.if-r-ne0.false
+    slice_good _ at.invariant.2 (search rules) (refusal c.before.before) c.if-r-ne0.false
 
 pub returns-then-h-ne0 : goal.returns-then-h-ne0
 returns-then-h-ne0 c =
@@ -37,13 +37,13 @@ returns-then-h-ne0 c =
     (c.stopped.ensures.0 ∙ b.0, c.stopped.ensures.1 ∙ b.1)
 
 pub bounds-file-3 : goal.bounds-file-3
-bounds-file-3 c = omega (arith, whole c)
+bounds-file-3 c = omega (arith, whole c.before.before)
 
 pub overflow_cast-n : goal.overflow_cast-n
 overflow_cast-n c = omega (arith, c.type_inv.file 3)
 
 pub bounds-file-4 : goal.bounds-file-4
-bounds-file-4 c = omega (arith, whole c)
+bounds-file-4 c = omega (arith, whole c.before.before.before)
 
 pub overflow_cast-m : goal.overflow_cast-m
 overflow_cast-m c = omega (arith, c.type_inv.file 4)
@@ -52,7 +52,7 @@ pub returns-then-file-at : goal.returns-then-file-at
 returns-then-file-at c =
     let k = c in
     let a = k.args in
-    let b = cut_off a.file.now (good k) a.passed (rw (start_at a.file.now a.passed) c.if-file-at.true) in
+    let b = cut_off a.file.now (good k.before.before) a.passed (rw (start_at a.file.now a.passed) c.if-file-at.true) in
     (c.stopped-then-file-at.ensures.0 ∙ rw (← start_at a.file.now a.passed) b.0, c.stopped-then-file-at.ensures.1 ∙ b.1)
 
 pub loop-s-init : goal.loop-s-init
@@ -60,12 +60,12 @@ loop-s-init c =
     let k = c in
     let a = k.args in
     let here = start_at a.file.now a.passed in
-    (omega (arith, k.type_inv.file 3), search rules, subst (Stands a.file.now a.passed a.passed) here (taken_up a.file.now (good k) a.passed (rw here c.if-file-at.false)))
+    (omega (arith, k.type_inv.file 3), search rules, subst (Stands a.file.now a.passed a.passed) here (taken_up a.file.now (good k.before.before) a.passed (rw here c.if-file-at.false)))
 
 pub returns-then-r-ne0 : goal.returns-then-r-ne0
 returns-then-r-ne0 c =
     let at = c.loop-s in
-    let b = slice_bad _ at.invariant.2 (search rules) (refusal c) c.if-r-ne0.true in
+    let b = slice_bad _ at.invariant.2 (search rules) (refusal c.before.before.before) c.if-r-ne0.true in
     (c.stopped-then-r-ne0.ensures.0 ∙ b.0, c.stopped-then-r-ne0.ensures.1 ∙ b.1)
 
 pub overflow_add-at-in-loop-s : goal.overflow_add-at-in-loop-s

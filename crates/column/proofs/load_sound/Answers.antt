@@ -21,10 +21,10 @@ few : (c : After-slice_known-2-1) → c.args.n ≤ slice_limit
 few c = (sound_file c.args.file.now c.requires.sound).slices_fit
 
 -- the fronts of the two buffers
-numbers : (c : After-slice_known-2-1) → let b = c in length (take (table_length b.args.n) b.args.table-1.now) ≡ table_length b.args.n
+numbers : (c : After-slice_known-2-1) → let b = c in length (take (table_length b.args.n) b.args.table.now) ≡ table_length b.args.n
 numbers c = length-take-le _ _ (omega (arith, few c))
 
-signals : (c : After-slice_known-2-1) → let b = c in length (take (signal_count b.args.n) b.args.order-1.now) ≡ signal_count b.args.n
+signals : (c : After-slice_known-2-1) → let b = c in length (take (signal_count b.args.n) b.args.order.now) ≡ signal_count b.args.n
 signals c = length-take-le _ _ (omega (arith, few c))
 
 -- what the answer of `compile` says, for each case of it
@@ -43,16 +43,16 @@ pub slice_bounds-compile-end : goal.slice_bounds-compile-end
 slice_bounds-compile-end c = omega (arith, few c)
 
 pub slice_bounds-compile-end-2 : goal.slice_bounds-compile-end-2
-slice_bounds-compile-end-2 c = sym (numbers c)
+slice_bounds-compile-end-2 c = sym (numbers c.before.before)
 
 pub slice_bounds-compile-end-3 : goal.slice_bounds-compile-end-3
-slice_bounds-compile-end-3 c = omega (arith, few c)
+slice_bounds-compile-end-3 c = omega (arith, few c.before.before)
 
 pub slice_bounds-compile-end-4 : goal.slice_bounds-compile-end-4
-slice_bounds-compile-end-4 c = sym (signals c)
+slice_bounds-compile-end-4 c = sym (signals c.before.before.before)
 
 pub compile-requires : goal.compile-requires
-compile-requires c = (c.requires.sound, (numbers c, signals c))
+compile-requires c = (c.requires.sound, (numbers c.before.before.before, signals c.before.before.before))
 
 pub returns-in-Loop : goal.returns-in-Loop
 unfolding Says

@@ -17,11 +17,11 @@ fine c = sound_file c.args.file.now c.requires.sound.0
 held : (c : After-slice_body-body) → HoldsSlice c.slice_body-body.result.now
 held c =
     let b = c in
-    omega (arith, ap length c.slice_body-body.ensures, body_length_lem _ (fine c) b.args.s b.requires.sound.1)
+    omega (arith, ap length c.slice_body-body.ensures, body_length_lem _ (fine c.before.before) b.args.s b.requires.sound.1)
 
 pub pin_numbers-pins-requires : goal.pin_numbers-pins-requires
 pin_numbers-pins-requires c =
-    let f = fine c in
+    let f = fine c.before.before in
     (held c, omega (arith, f.slices_fit), f.inputs_fit)
 
 pub loop-k-init : goal.loop-k-init
@@ -33,21 +33,21 @@ loop-k-init c =
 pub row_at-row-requires : goal.row_at-row-requires
 row_at-row-requires c =
     let p = c in
-    let f = fine p in
-    ((held p, omega (arith, f.slices_fit), p.requires.sound.1, p.pin_numbers-pins.ensures), omega arith)
+    let f = fine p.before.before in
+    ((held p.before, omega (arith, f.slices_fit), p.requires.sound.1, p.pin_numbers-pins.ensures), omega arith)
 
 pub overflow_mul-s : goal.overflow_mul-s
-overflow_mul-s c = omega (arith, (fine c).slices_fit)
+overflow_mul-s c = omega (arith, (fine c.before.before.before.before.before.before.before.before).slices_fit)
 
 pub overflow_add-s : goal.overflow_add-s
-overflow_add-s c = omega (arith, (fine c).slices_fit)
+overflow_add-s c = omega (arith, (fine c.before.before.before.before.before.before.before.before).slices_fit)
 
 pub loop-k-preserved : goal.loop-k-preserved
 loop-k-preserved c =
     let r = c in
     let l = r.loop-k in
     let b = r in
-    let f = fine b in
+    let f = fine b.before in
     let a = b.args in
     let x = slice_signals * a.s + l.k in
     let e = rw (r.row_at-row.ensures, b.slice_body-body.ensures, ← gate_of_slice a.file.now f a.s l.k (omega arith)) at c.put_row.ensures in

@@ -18,7 +18,7 @@ returns-in_default c =
     handed_on _ _ c.enum_told-1.given.1 (loaded_judged _ _ _ l.load-v.ensures) c.refusal.ensures (refl, refl)
 
 pub edit_planned-requires : goal.edit_planned-requires
-edit_planned-requires c = (ready_runs _ (ready c), search rules)
+edit_planned-requires c = (ready_runs _ (ready c.before.before.before.before.before.before), search rules)
 
 pub returns : goal.returns
 returns c =

@@ -25,18 +25,18 @@ use Rattle.edits.proofs.edit_planned.Goals as goal
 use Rattle.edits.proofs.edit_planned.Goals.{After-edit_refusal-number, Start}
 
 abbrev start : After-edit_refusal-number → Start
-start k = k
+start k = k.before.before.before.before.before.before.before.before.before.before.before.before
 
 -- what it was lent
 abbrev before : Start → Env
-before b = env b.args.contents-1.now b.args.flops.now b.args.inputs-1.now
+before b = env b.args.contents.now b.args.flops.now b.args.inputs.now
 
 abbrev edits : Start → List Edit
 edits b = edits_in b.args.words.now b.args.count
 
 -- the refusal by the plan
 refusal : (k : After-edit_refusal-number) → let b = start k in
-    k.edit_refusal-number.result ≡ plan_refusal b.args.plan.now b.args.n b.args.m (before b) (edits b) b.args.values-1.now
+    k.edit_refusal-number.result ≡ plan_refusal b.args.plan.now b.args.n b.args.m (before b) (edits b) b.args.values.now
 refusal k = rw k.edges-edges.ensures at (rw k.bad_edits-bad.ensures at k.edit_refusal-number.ensures)
 
 -- the edits are not refused, so the buffers have their lengths and hold bits, and what they change is there
@@ -61,7 +61,7 @@ edit_refusal-number-requires c =
     (b.requires.0.few, edges_long b.requires.0 c.edges-edges.ensures)
 
 pub returns-then-number-ne0 : goal.returns-then-number-ne0
-returns-then-number-ne0 c = plan_refused_by _ (refusal c) c.if-number-ne0.true (refl, refl)
+returns-then-number-ne0 c = plan_refused_by _ (refusal c.before.before) c.if-number-ne0.true (refl, refl)
 
 pub store_edits-requires : goal.store_edits-requires
 store_edits-requires c =
@@ -72,7 +72,7 @@ store_edits-requires c =
 
 pub order-order-requires : goal.order-order-requires
 order-order-requires c =
-    let b = begin c in
+    let b = begin c.before.before.before.before.before.before.before.before.before.before.before.before.before in
     (b.requires.0.room, omega (arith, b.requires.0.few))
 
 pub edit_by-requires : goal.edit_by-requires
@@ -82,7 +82,7 @@ edit_by-requires c =
     let e = s in
     let b = begin e in
     let p = edit_passed _ _ _ _ _ _ _ (none e) in
-    let same : length s.store_edits.new.1.1.1.0 ≡ length b.args.inputs-1.now = search rules in
+    let same : length s.store_edits.new.1.1.1.0 ≡ length b.args.inputs.now = search rules in
     let long = same ∙ p.0.inputs-1 in
     ((parts_walk b.requires.0 t.table-table.ensures c.order-order.ensures long, p.0.values-1), (omega (arith, long, b.requires.0.narrow), search rules, stored_bits _ _ (there e).1 s.store_edits.ensures p.1, p.2))
 

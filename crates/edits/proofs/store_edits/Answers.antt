@@ -8,7 +8,7 @@ use Rattle.edits.proofs.store_edits.Goals.{At-loop-i, Start}
 
 -- where it began
 abbrev start : At-loop-i → Start
-start l = l
+start l = l.before.before.before.before.before.before
 
 pub loop-i-init : goal.loop-i-init
 loop-i-init c =
@@ -31,5 +31,5 @@ loop-i-preserved c =
 
 pub returns : goal.returns
 returns c =
-    let a = (start c).args in
+    let a = (start c.before.before).args in
     before_end a.words.now a.count _ c.loop-i.i c.loop-i.invariant.1 (search rules)

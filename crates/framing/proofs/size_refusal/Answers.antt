@@ -21,13 +21,13 @@ returns-then-h-ne0 c =
     e ∙ or_else_first _ _ (λ z. c.if-h-ne0.true (e ∙ z))
 
 pub bounds-s-3 : goal.bounds-s-3
-bounds-s-3 c = omega (arith, whole c)
+bounds-s-3 c = omega (arith, whole c.before.before)
 
 pub overflow_cast-n : goal.overflow_cast-n
 overflow_cast-n c = omega (arith, c.type_inv.s 3)
 
 pub bounds-s-4 : goal.bounds-s-4
-bounds-s-4 c = omega (arith, whole c)
+bounds-s-4 c = omega (arith, whole c.before.before.before)
 
 pub overflow_cast-m : goal.overflow_cast-m
 overflow_cast-m c = omega (arith, c.type_inv.s 4)

@@ -12,14 +12,14 @@ use Rattle.plan.proofs.load.Goals as goal
 use Rattle.plan.proofs.load.Goals.{Start}
 
 -- the front of the buffer that the gate table is lowered into
-front : (b : Start) → length (take table_limit b.args.plan-1.now) ≡ table_limit
-front b = length-take-le table_limit b.args.plan-1.now (omega (arith, b.requires))
+front : (b : Start) → length (take table_limit b.args.plan.now) ≡ table_limit
+front b = length-take-le table_limit b.args.plan.now (omega (arith, b.requires))
 
 pub slice_bounds-load-end-2 : goal.slice_bounds-load-end-2
-slice_bounds-load-end-2 c = sym (front c)
+slice_bounds-load-end-2 c = sym (front c.before.before.before.before)
 
 pub load-v-requires : goal.load-v-requires
-load-v-requires c = (front c, search rules)
+load-v-requires c = (front c.before.before.before.before.before, search rules)
 
 pub returns-in_default : goal.returns-in_default
 returns-in_default c =
@@ -32,8 +32,8 @@ complete-requires c =
     let l = v in
     let b = l in
     let n = l.load-v.new.1.0 in
-    let rest = drop table_limit b.args.plan-1.now in
+    let rest = drop table_limit b.args.plan.now in
     let sized : length n ≡ table_limit = l.load-v.auto.1.0 ∙ front b in
     let r = rw v.v-1.given.1 at l.load-v.ensures in
     let few = (sound_file b.args.file.now (accepted_sound b.args.file.now r.verdict)).slices_fit in
-    (netlist_longer b.args.file.now rest (omega (arith, sized, few)) r, (l.load-v.auto.1.1.0, omega (arith, length-append n rest, length-drop table_limit b.args.plan-1.now, sized, b.requires)))
+    (netlist_longer b.args.file.now rest (omega (arith, sized, few)) r, (l.load-v.auto.1.1.0, omega (arith, length-append n rest, length-drop table_limit b.args.plan.now, sized, b.requires)))

@@ -44,16 +44,16 @@ edge_of-numbers-requires c =
     (omega (arith, ap length c.slice_body-body.ensures, body_length_lem b.args.file.now f l.loop-s.s (search rules)), f.slices_fit, omega (arith, f.inputs_fit), search rules)
 
 pub overflow_mul-n : goal.overflow_mul-n
-overflow_mul-n c = omega (arith, (fine c).slices_fit)
+overflow_mul-n c = omega (arith, (fine c.before.before.before.before.before.before.before.before).slices_fit)
 
 pub overflow_mul-s : goal.overflow_mul-s
-overflow_mul-s c = omega (arith, (fine c).slices_fit)
+overflow_mul-s c = omega (arith, (fine c.before.before.before.before.before.before.before.before).slices_fit)
 
 pub overflow_add-n : goal.overflow_add-n
-overflow_add-n c = omega (arith, (fine c).slices_fit)
+overflow_add-n c = omega (arith, (fine c.before.before.before.before.before.before.before.before).slices_fit)
 
 pub slice_bounds-copy_to-end : goal.slice_bounds-copy_to-end
-slice_bounds-copy_to-end c = sym (count c)
+slice_bounds-copy_to-end c = sym (count c.before.before.before)
 
 pub copy_to-requires : goal.copy_to-requires
 copy_to-requires c =

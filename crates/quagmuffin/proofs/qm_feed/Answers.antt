@@ -22,16 +22,16 @@ fed c =
 fits : (c : After-feed-fed) → FitsReply c.feed-fed.result.reply × FitsReply c.feed-fed.result.reader.said
 fits c =
     let k = c in
-    feeds_all FitsReply small_fits tt _ _ _ _ _ _ (reply_fits (get_or k.args.state-1.now 2 0) (omega (arith, k.type_inv.state 2))) (fed c)
+    feeds_all FitsReply small_fits tt _ _ _ _ _ _ (reply_fits (get_or k.args.state.now 2 0) (omega (arith, k.type_inv.state 2))) (fed c)
 
 pub returns-then-state-ne-STATE : goal.returns-then-state-ne-STATE
 returns-then-state-ne-STATE c = words_wrong c.if-state-ne-STATE.true
 
 pub store_reader-requires : goal.store_reader-requires
-store_reader-requires c = (c.if-state-ne-STATE.false, (fits c).1)
+store_reader-requires c = (c.if-state-ne-STATE.false, (fits c.before.before.before.before.before).1)
 
 pub pack_reply-requires : goal.pack_reply-requires
-pack_reply-requires c = (fits c).0
+pack_reply-requires c = (fits c.before.before.before.before.before.before.before.before).0
 
 pub returns : goal.returns
 returns c =

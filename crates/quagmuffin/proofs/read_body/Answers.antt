@@ -23,5 +23,5 @@ returns c =
     let p = c in
     let t = p in
     let k = t in
-    let st = read_stored k.args.bytes.now k.args.n k.args.m k.args.body-1.now (λ i. (k.type_inv.bytes i).fits) k.requires (none t) in
+    let st = read_stored k.args.bytes.now k.args.n k.args.m k.args.body.now (λ i. (k.type_inv.bytes i).fits) k.requires (none t) in
     (st.0, p.put_bytes.ensures ∙ st.1)

@@ -26,7 +26,7 @@ returns-then-bad_size c =
     read_refused _ _ _ 11 _ (simp (eq-eqb _ _ b.if-bytes-ne-SLICE_RECORD.false, ← b.bad_size.ensures, c.if-bad_size.true)) (λ z. omega arith) c.no_record-then-bad_size.ensures
 
 pub returns-then-number-ne0 : goal.returns-then-number-ne0
-returns-then-number-ne0 c = read_refused _ _ _ _ _ (decided c) c.if-number-ne0.true c.no_record-then-number-ne0.ensures
+returns-then-number-ne0 c = read_refused _ _ _ _ _ (decided c.before.before.before) c.if-number-ne0.true c.no_record-then-number-ne0.ensures
 
 pub returns : goal.returns
-returns c = rw c.decode-slice.ensures (sym (read_done _ _ _ (decided c ∙ c.if-number-ne0.false)))
+returns c = rw c.decode-slice.ensures (sym (read_done _ _ _ (decided c.before.before.before.before ∙ c.if-number-ne0.false)))

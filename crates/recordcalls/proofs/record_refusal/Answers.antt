@@ -26,8 +26,8 @@ overflow_cast-number c = omega (arith, c.type_inv.body 0)
 
 pub returns-then-n-number : goal.returns-then-n-number
 unfolding record_refusal
-returns-then-n-number c = simp (accepted c, le-ltb _ _ c.if-n-number.true)
+returns-then-n-number c = simp (accepted c.before.before.before.before, le-ltb _ _ c.if-n-number.true)
 
 pub returns : goal.returns
 unfolding record_refusal
-returns c = c.body_refusal.ensures ∙ sym (simp (accepted c, lt-ltb _ _ c.if-n-number.false))
+returns c = c.body_refusal.ensures ∙ sym (simp (accepted c.before.before.before.before.before, lt-ltb _ _ c.if-n-number.false))

@@ -29,7 +29,7 @@ returns-then-bad_size c =
     write_refused _ _ _ _ 11 (simp (le-ltb _ _ b.if-part-lt-SLICE_RECORD.false, ← b.bad_size.ensures, c.if-bad_size.true)) (λ z. omega arith)
 
 pub returns-then-number-ne0 : goal.returns-then-number-ne0
-returns-then-number-ne0 c = write_refused _ _ _ _ _ (decided c) c.if-number-ne0.true
+returns-then-number-ne0 c = write_refused _ _ _ _ _ (decided c.before.before) c.if-number-ne0.true
 
 pub returns : goal.returns
 returns c =

@@ -19,24 +19,24 @@ fine : (c : After-slice_known-1) → SoundFile c.args.file.now c.args.n c.args.m
 fine c = sound_file c.args.file.now c.requires.0
 
 within : (c : At-loop-s) → SoundFile c.args.file.now c.args.n c.args.m
-within c = fine c
+within c = fine c.before.before.before.before.before.before.before
 
 -- the record of slice s is inside the file
 inside : (c : In-loop-s) → c.loop-s.at + record_length slice_tag ≤ length c.args.file.now
-inside c = omega (arith, c.loop-s.invariant.1, record_inside _ (within c) c.loop-s.s (search rules))
+inside c = omega (arith, c.loop-s.invariant.1, record_inside _ (within c.before.before) c.loop-s.s (search rules))
 
 -- behind the last slice
 at-end : (c : After-loop-s) → c.loop-s.at ≡ record_start c.args.file.now c.args.n
 at-end c = c.loop-s.invariant.1 ∙ ap (record_start _) (omega arith)
 
 pub overflow_cast-m : goal.overflow_cast-m
-overflow_cast-m c = omega (arith, (fine c).slices_fit)
+overflow_cast-m c = omega (arith, (fine c.before.before).slices_fit)
 
 pub slice_bounds-put_bytes-end : goal.slice_bounds-put_bytes-end
 slice_bounds-put_bytes-end c = refl
 
 pub put_bytes-requires : goal.put_bytes-requires
-put_bytes-requires c = omega (arith, size_whole _ (fine c).begins, c.requires.1)
+put_bytes-requires c = omega (arith, size_whole _ (fine c.before.before.before).begins, c.requires.1)
 
 pub loop-s-init : goal.loop-s-init
 loop-s-init c =
@@ -44,28 +44,28 @@ loop-s-init c =
     let k = p in
     let b = k in
     let size : length p.put_bytes.new.0 ≡ length b.args.file.now = p.put_bytes.auto.0 ∙ b.requires.1 in
-    (search rules, sym (start_at _ 0), size, rw p.put_bytes.ensures (size_next _ (fine k) (λ i. (k.type_inv.file i).fits) b.args.out-1.now b.requires.1))
+    (search rules, sym (start_at _ 0), size, rw p.put_bytes.ensures (size_next _ (fine k.before) (λ i. (k.type_inv.file i).fits) b.args.out.now b.requires.1))
 
 pub overflow_add-at : goal.overflow_add-at
 overflow_add-at c = omega (arith, inside c)
 
 pub slice_bounds-put_slice-count-in-loop-s : goal.slice_bounds-put_slice-count-in-loop-s
-slice_bounds-put_slice-count-in-loop-s c = omega (arith, inside c)
+slice_bounds-put_slice-count-in-loop-s c = omega (arith, inside c.before.before)
 
 pub put_slice-requires : goal.put_slice-requires
 put_slice-requires c =
     let at = c.loop-s in
-    let f = within c in
-    (rw (add-sub_cancel_left, at.invariant.1) (record_read _ f at.s (search rules)), simp (length-take, length-drop) (omega (arith, inside c, at.invariant.2)))
+    let f = within c.before.before.before.before in
+    (rw (add-sub_cancel_left, at.invariant.1) (record_read _ f at.s (search rules)), simp (length-take, length-drop) (omega (arith, inside c.before.before.before, at.invariant.2)))
 
 pub overflow_add-at-in-loop-s : goal.overflow_add-at-in-loop-s
-overflow_add-at-in-loop-s c = omega (arith, inside c)
+overflow_add-at-in-loop-s c = omega (arith, inside c.before.before.before.before.before.before)
 
 pub loop-s-preserved : goal.loop-s-preserved
 loop-s-preserved c =
     let p = c in
     let at = p.loop-s in
-    let f = within p in (
+    let f = within p.before.before.before.before in (
       search rules,
       ap (λ (p : ℕ). p + record_length slice_tag) at.invariant.1 ∙ sym (start_next _ at.s),
       same_len_mid at.at (length at.out-1 - at.at) at.out-1 p.put_slice.new.1.1.1.0 p.put_slice.auto.1.1.1.0 ∙ at.invariant.2,
@@ -73,7 +73,7 @@ loop-s-preserved c =
     )
 
 pub put_bytes-requires-2 : goal.put_bytes-requires-2
-put_bytes-requires-2 c = omega (arith, at-end c, (within c).size)
+put_bytes-requires-2 c = omega (arith, at-end c.before.before.before, (within c.before.before.before.before).size)
 
 pub shape_of-out : goal.shape_of-out
 shape_of-out c =
@@ -84,4 +84,4 @@ pub returns : goal.returns
 returns c =
     let p = c in
     let l = p in
-    p.put_bytes-2.ensures ∙ end_next _ (within l) l.loop-s.out-1 l.loop-s.at (at-end p) l.loop-s.invariant.2 l.loop-s.invariant.3
+    p.put_bytes-2.ensures ∙ end_next _ (within l) l.loop-s.out-1 l.loop-s.at (at-end p.before.before.before) l.loop-s.invariant.2 l.loop-s.invariant.3

@@ -13,10 +13,10 @@ sound c = sym c.check_file.ensures ∙ c.n-1.given.1
 
 pub returns-then-out-file : goal.returns-then-out-file
 unfolding rewritten
-returns-then-out-file c = (simp (sound c, ne_eqb _ _ c.if-out-file.true), refl)
+returns-then-out-file c = (simp (sound c.before.before.before, ne_eqb _ _ c.if-out-file.true), refl)
 
 pub put_records-requires : goal.put_records-requires
-put_records-requires c = (sound c, c.if-out-file.false)
+put_records-requires c = (sound c.before.before.before.before, c.if-out-file.false)
 
 pub returns-in-Bad : goal.returns-in-Bad
 unfolding rewritten
@@ -26,4 +26,4 @@ pub returns-else-out-file : goal.returns-else-out-file
 unfolding rewritten
 returns-else-out-file c =
     let p = c in
-    (simp (sound p, eq-eqb _ _ p.if-out-file.false), p.put_records.ensures)
+    (simp (sound p.before.before.before.before, eq-eqb _ _ p.if-out-file.false), p.put_records.ensures)

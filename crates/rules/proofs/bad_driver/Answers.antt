@@ -9,11 +9,8 @@ use Rattle.slicefile.specs.Format.{pin_count, pin_code}
 use Rattle.slicefile.specs.Driver.{driver_of}
 use Rattle.rules.specs.Rules.{missing, bad_driver}
 use Rattle.slicefile.proofs.Tests.{any_next}
+use Rattle.rules.proofs.bad_driver.Invariants.{undriven}
 use Rattle.rules.proofs.bad_driver.Goals as goal
-
--- pin p has no driver
-abbrev undriven : ℕ → ℕ → List ℕ → ℕ → Bool
-undriven n m body p = missing (driver_of (pin_code body p) n m)
 
 pub loop-p-init : goal.loop-p-init
 unfolding any_below

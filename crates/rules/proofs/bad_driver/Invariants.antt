@@ -12,6 +12,10 @@ use Rattle.rules.specs.Rules.{missing, bad_driver}
 use Rattle.slicefile.proofs.Tests.{any_next}
 use Rattle.rules.proofs.bad_driver.Given as goal
 
+-- pin p has no driver
+abbrev pub undriven : ℕ → ℕ → List ℕ → ℕ → Bool
+undriven n m body p = missing (driver_of (pin_code body p) n m)
+
 abbrev pub invariant-loop-p : goal.invariant-loop-p
 invariant-loop-p l = (l.p ≤ pin_count) × (l.found ≡ any_below l.p (undriven l.n l.m l.body))
 

@@ -43,7 +43,7 @@ pub slice_bounds-wires-end : goal.slice_bounds-wires-end
 slice_bounds-wires-end c = let k = c in omega (arith, (ready_runs _ (ready k)).few, (ready_runs _ (ready k)).narrow)
 
 pub slice_bounds-clock_planned-end-2 : goal.slice_bounds-clock_planned-end-2
-slice_bounds-clock_planned-end-2 c = sym (front c)
+slice_bounds-clock_planned-end-2 c = sym (front c.before.before.before.before.before.before)
 
 pub clock_planned-requires : goal.clock_planned-requires
 clock_planned-requires c = let k = c in (ready_runs _ (ready k), front k, front-bits k)

@@ -6,7 +6,7 @@ use Rattle.simulator.proofs.clock_by.Goals as goal
 use Rattle.simulator.proofs.clock_by.Goals.{After-table-table, Start}
 
 abbrev start : After-table-table → Start
-start t = t
+start t = t.before.before.before.before.before.before.before
 
 pub settle_by-requires : goal.settle_by-requires
 settle_by-requires c =
@@ -19,7 +19,7 @@ pub move_all-requires : goal.move_all-requires
 move_all-requires c =
     let e = c in
     let s = e in
-    let b = start s in
+    let b = start s.before.before.before.before.before.before in
     ((b.requires.runnable.0.few, parts_edges b.requires.runnable.0 e.edges-edges.ensures s.settle_by.ensures.are_wires), (b.requires.contents_len.0, b.requires.contents_len.1))
 
 pub returns : goal.returns
@@ -31,6 +31,6 @@ returns c =
     let w = s.settle_by.ensures in
     record {
       settled = rw t.table-table.ensures at w.settled;
-      moves = parts_clocked (start t).args.plan.now (start t).args.contents-1.now (start t).args.flops-1.now e.edges-edges.ensures w.are_wires w.on_inputs w.on_values k.move_all.ensures.contents_value k.move_all.ensures.flops_value;
+      moves = parts_clocked (start t).args.plan.now (start t).args.contents.now (start t).args.flops.now e.edges-edges.ensures w.are_wires w.on_inputs w.on_values k.move_all.ensures.contents_value k.move_all.ensures.flops_value;
       bits = w.are_wires.bits;
     }

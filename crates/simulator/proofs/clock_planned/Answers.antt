@@ -20,7 +20,7 @@ pub settle_refusal-number-requires : goal.settle_refusal-number-requires
 settle_refusal-number-requires c = let b = c in (b.requires.0.few, edges_long b.requires.0 c.edges-edges.ensures)
 
 pub returns-then-number-ne0 : goal.returns-then-number-ne0
-returns-then-number-ne0 c = plan_refused_by _ (refusal c) c.if-number-ne0.true (refl, refl)
+returns-then-number-ne0 c = plan_refused_by _ (refusal c.before.before) c.if-number-ne0.true (refl, refl)
 
 pub clock_by-requires : goal.clock_by-requires
 clock_by-requires c =
@@ -35,4 +35,4 @@ pub returns : goal.returns
 returns c =
     let d = c in
     let e = d in
-    plan_done (sym (refusal e) ∙ e.if-number-ne0.false) (d.clock_by.ensures.moves, d.clock_by.ensures.settled)
+    plan_done (sym (refusal e.before) ∙ e.if-number-ne0.false) (d.clock_by.ensures.moves, d.clock_by.ensures.settled)

@@ -20,7 +20,7 @@ pub settle_refusal-number-requires : goal.settle_refusal-number-requires
 settle_refusal-number-requires c = let b = c in (b.requires.0.few, edges_long b.requires.0 c.edges-edges.ensures)
 
 pub returns-then-number-ne0 : goal.returns-then-number-ne0
-returns-then-number-ne0 c = plan_refused_by _ (refusal c) c.if-number-ne0.true refl
+returns-then-number-ne0 c = plan_refused_by _ (refusal c.before.before) c.if-number-ne0.true refl
 
 pub settle_by-requires : goal.settle_by-requires
 settle_by-requires c =

@@ -9,17 +9,17 @@ use Rattle.sources.proofs.driver_number.Goals as goal
 use Rattle.sources.proofs.driver_number.Goals.{Start}
 
 -- what was found is there
-there : (c : Start) {d : Driver} → c.args.d-1 ≡ d → Within c.args.n input_room d
+there : (c : Start) {d : Driver} → c.args.d ≡ d → Within c.args.n input_room d
 there c e = subst (Within c.args.n input_room) e c.requires.1
 
 pub overflow_add-result-in-Input : goal.overflow_add-result-in-Input
-overflow_add-result-in-Input c = omega (arith, there c c.d-in-Input-1.given.1)
+overflow_add-result-in-Input c = omega (arith, there c.before.before.before.before c.d-in-Input-1.given.1)
 
 pub overflow_cast-result : goal.overflow_cast-result
-overflow_cast-result c = omega (arith, there c c.d-in-Input-1.given.1)
+overflow_cast-result c = omega (arith, there c.before.before.before.before c.d-in-Input-1.given.1)
 
 pub output_number-requires : goal.output_number-requires
-output_number-requires c = let w = there c c.d-in-Output-1.given.1 in (omega arith, w.1)
+output_number-requires c = let w = there c.before.before.before.before c.d-in-Output-1.given.1 in (omega arith, w.1)
 
 pub returns-then-b : goal.returns-then-b
 unfolding code_of

@@ -12,7 +12,7 @@ said : (c : After-early_reply-said) → let a = c.args in c.early_reply-said.res
 said c = c.early_reply-said.ensures ∙ ap early c.check_from-progress.ensures.0
 
 pub returns-in_default : goal.returns-in_default
-returns-in_default c = next_verdict _ _ _ refl (said c) c.enum_told-in_default-1.given.1
+returns-in_default c = next_verdict _ _ _ refl (said c.before.before.before) c.enum_told-in_default-1.given.1
 
 pub returns : goal.returns
 returns c = let r = c in next_more _ _ _ refl (said r) c.enum_told-1.given.1 r.check_from-progress.ensures.1

@@ -26,22 +26,22 @@ inside c = c.stays_inside-waits.ensures (not-false _ (or_right c.args.last (not 
 fits : (c : Else-last-waits) → let a = c.args in a.reader.len + length a.run.now ≤ file_limit
 fits c =
     let k = c in
-    omega (arith, (inside c).room, within k, k.requires.0, length-take k.args.reader.len k.args.store-1.now)
+    omega (arith, (inside c).room, within k, k.requires.0, length-take k.args.reader.len k.args.store.now)
 
 pub slice_bounds-stays_inside-end : goal.slice_bounds-stays_inside-end
-slice_bounds-stays_inside-end c = omega (arith, within c, c.requires.0)
+slice_bounds-stays_inside-end c = omega (arith, within c.before.before, c.requires.0)
 
 pub slice_bounds-stays_inside-end-2 : goal.slice_bounds-stays_inside-end-2
-slice_bounds-stays_inside-end-2 c = sym (length-take-le _ _ (slice-reshare-prefix-stays-inside c))
+slice_bounds-stays_inside-end-2 c = sym (length-take-le _ _ (slice-reshare-prefix-stays-inside c.before.before))
 
 pub stays_inside-waits-requires : goal.stays_inside-waits-requires
 stays_inside-waits-requires c = let s = c in own_passed s.args.reader s.requires.1
 
 pub put_bytes-requires : goal.put_bytes-requires
-put_bytes-requires c = omega (arith, fits c, c.requires.0)
+put_bytes-requires c = omega (arith, fits c.before.before, c.requires.0)
 
 pub overflow_add-result : goal.overflow_add-result
-overflow_add-result c = omega (arith, fits c)
+overflow_add-result c = omega (arith, fits c.before.before.before.before.before)
 
 pub returns : goal.returns
 returns c =

@@ -31,13 +31,13 @@ abbrev readTop : Start → ℕ → Read
 readTop s i = read_at (net s) s.args.top i
 
 -- that is the place that the code looked at
-looked : (c : After-read_at) (i : ℕ) → Next c i → readTop c i ≡ c.read_at.result
+looked : (c : After-read_at) (i : ℕ) → Next c.before.before.before.before.before.before.before.before.before.before.before.before.before i → readTop c.before.before.before.before.before.before.before.before.before.before.before.before.before i ≡ c.read_at.result
 looked c i e =
     let h : i ≡ c.wide8.result - 1 = omega (arith, c.wide8.ensures) in
     rw h (sym c.read_at.ensures)
 
 abbrev begun : In-Signal-2 → Start
-begun c = c
+begun c = c.before.before.before.before.before.before.before.before.before.before.before.before.before.before
 
 abbrev read : In-Signal-2 → ℕ
 read c = c.y-1.given.0.0
@@ -52,7 +52,7 @@ y-below c = let b = begun c in b.requires.table.1 b.args.top (read c) b.requires
 
 -- the read is y and no other
 only : (c : In-Signal-2) (i z : ℕ) → Next (begun c) i → readTop (begun c) i ≡ Signal z → z ≡ read c
-only c i z e r = same_signal (net (begun c)) _ i z _ r (looked c i e ∙ c.y-1.given.1)
+only c i z e r = same_signal (net (begun c)) _ i z _ r (looked c.before.before.before i e ∙ c.y-1.given.1)
 
 -- y is closed where it is seen and off the stack
 abbrev OnHere : In-Signal-2 → Type 0
@@ -64,9 +64,9 @@ closed-read a d off i z e r = rw (only a i z e r) (record { seen = omega arith; 
 
 -- the stack was looked at, at the place of y
 abbrev y-looked : After-wide16 → In-Signal-2
-y-looked c = c
+y-looked c = c.before.before.before.before.before.before.before.before.before
 
-on-here : (c : Then-wide16-y) → OnHere (y-looked c)
+on-here : (c : Then-wide16-y) → OnHere (y-looked c.before.before)
 on-here c =
     let f = c in
     let e = f.wide16-place.ensures in
@@ -107,13 +107,13 @@ returns-then-len-place c =
 pub returns-then-place-head : goal.returns-then-place-head
 returns-then-place-head c =
     let d = c in
-    let a = y-looked d in
+    let a = y-looked d.before in
     (top-reads a, on-here d, omega (arith, head a, d.wide16-place.ensures, c.if-place-head.true))
 
 pub returns-then-wide16-y : goal.returns-then-wide16-y
 returns-then-wide16-y c =
     let d = c in
-    let a = y-looked d in (
+    let a = y-looked d.before in (
       top-reads a,
       on-here d,
       omega (arith, head a, d.wide16-place.ensures, c.if-place-head.false),
@@ -124,7 +124,7 @@ returns-then-wide16-y c =
 pub returns-in-Nothing : goal.returns-in-Nothing
 returns-in-Nothing c =
     let b = c in
-    (b.if-mark-eq-LAST_MARK.false, λ i z e r. absurd (not_both (net b) _ i z (looked b i e ∙ c.enum_told-1.given.1) r))
+    (b.if-mark-eq-LAST_MARK.false, λ i z e r. absurd (not_both (net b.before.before.before.before.before.before.before.before.before.before.before.before) _ i z (looked b i e ∙ c.enum_told-1.given.1) r))
 
 pub returns-else-wide16-y : goal.returns-else-wide16-y
 returns-else-wide16-y c =

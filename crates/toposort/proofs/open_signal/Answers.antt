@@ -20,25 +20,25 @@ has_room c = (
 )
 
 pub bounds-stack-len : goal.bounds-stack-len
-bounds-stack-len c = omega (arith, has_room c, c.requires.components.sized.stack)
+bounds-stack-len c = omega (arith, has_room c.before.before.before.before.before.before.before.before.before, c.requires.components.sized.stack)
 
 pub offset_bounds-heads-count : goal.offset_bounds-heads-count
-offset_bounds-heads-count c = omega (arith, has_room c, c.requires.table.0.0)
+offset_bounds-heads-count c = omega (arith, has_room c.before.before.before.before.before.before.before.before.before, c.requires.table.0.0)
 
 pub bounds-heads-count : goal.bounds-heads-count
-bounds-heads-count c = omega (arith, has_room c, c.requires.components.sized.heads)
+bounds-heads-count c = omega (arith, has_room c.before.before.before.before.before.before.before.before.before, c.requires.components.sized.heads)
 
 pub offset_bounds-path-depth : goal.offset_bounds-path-depth
-offset_bounds-path-depth c = omega (arith, has_room c, c.requires.table.0.0)
+offset_bounds-path-depth c = omega (arith, has_room c.before.before.before.before.before.before.before.before.before, c.requires.table.0.0)
 
 pub bounds-path-depth : goal.bounds-path-depth
-bounds-path-depth c = omega (arith, has_room c, c.requires.components.sized.path)
+bounds-path-depth c = omega (arith, has_room c.before.before.before.before.before.before.before.before.before, c.requires.components.sized.path)
 
 pub overflow_add-q : goal.overflow_add-q
-overflow_add-q c = omega (arith, has_room c, c.requires.table.0.0)
+overflow_add-q c = omega (arith, has_room c.before.before.before.before.before.before.before.before.before, c.requires.table.0.0)
 
 pub overflow_add-q-3 : goal.overflow_add-q-3
-overflow_add-q-3 c = omega (arith, has_room c, c.requires.table.0.0)
+overflow_add-q-3 c = omega (arith, has_room c.before.before.before.before.before.before.before.before.before, c.requires.table.0.0)
 
 pub returns : goal.returns
 returns c =

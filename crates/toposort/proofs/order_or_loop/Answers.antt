@@ -14,19 +14,19 @@ part : (c : Start) → signal_count c.args.n ≡ length (take (signal_count c.ar
 part c = sym (zeros_length signal_limit (signal_count c.args.n) c.requires.table.0.0)
 
 pub slice_bounds-scan_all-end : goal.slice_bounds-scan_all-end
-slice_bounds-scan_all-end c = part c
+slice_bounds-scan_all-end c = part c.before.before.before.before
 
 pub slice_bounds-scan_all-end-2 : goal.slice_bounds-scan_all-end-2
-slice_bounds-scan_all-end-2 c = part c
+slice_bounds-scan_all-end-2 c = part c.before.before.before.before.before
 
 pub slice_bounds-scan_all-end-3 : goal.slice_bounds-scan_all-end-3
-slice_bounds-scan_all-end-3 c = part c
+slice_bounds-scan_all-end-3 c = part c.before.before.before.before.before.before
 
 pub slice_bounds-scan_all-end-4 : goal.slice_bounds-scan_all-end-4
-slice_bounds-scan_all-end-4 c = part c
+slice_bounds-scan_all-end-4 c = part c.before.before.before.before.before.before.before
 
 pub slice_bounds-scan_all-end-5 : goal.slice_bounds-scan_all-end-5
-slice_bounds-scan_all-end-5 c = part c
+slice_bounds-scan_all-end-5 c = part c.before.before.before.before.before.before.before.before
 
 pub scan_all-best-requires : goal.scan_all-best-requires
 scan_all-best-requires c =
@@ -34,7 +34,7 @@ scan_all-best-requires c =
     let N = signal_count b.args.n in
     let z = take N (zeros signal_limit) in
     let e = sym (part b) in
-    let bs = search_of z z z z z b.args.order-1.now in
+    let bs = search_of z z z z z b.args.order.now in
     let sized : Sized N bs = record { marks = e; pos = e; stack = e; heads = e; path = e; order = b.requires.table.2 } in
     ((b.requires.table.0, b.requires.well_formed), (b.requires.table.1, (sized, zeros_all signal_limit N)))
 

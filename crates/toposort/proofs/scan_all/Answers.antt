@@ -32,7 +32,7 @@ pub scan_step-p-requires : goal.scan_step-p-requires
 scan_step-p-requires c =
     let t = c in
     let l = t in
-    (l.loop-p.invariant.0, ((begin l).requires.table.0, t.loop-p-test.true))
+    (l.loop-p.invariant.0, (l.requires.table.0, t.loop-p-test.true))
 
 pub loop-p-smaller : goal.loop-p-smaller
 loop-p-smaller c = c.scan_step-p.ensures.1
@@ -45,22 +45,22 @@ loop-p-preserved c =
     (m.0, λ q l. m.2.1 q (omega arith) ∙ i.1 q l, omega arith)
 
 pub shape_of-marks : goal.shape_of-marks
-shape_of-marks c = c.loop-p.invariant.0.sized.marks-1 ∙ sym (begin c).requires.flop_rows.1.0.marks-1
+shape_of-marks c = c.loop-p.invariant.0.sized.marks-1 ∙ sym c.requires.flop_rows.1.0.marks-1
 
 pub shape_of-pos : goal.shape_of-pos
-shape_of-pos c = c.loop-p.invariant.0.sized.pos-1 ∙ sym (begin c).requires.flop_rows.1.0.pos-1
+shape_of-pos c = c.loop-p.invariant.0.sized.pos-1 ∙ sym c.requires.flop_rows.1.0.pos-1
 
 pub shape_of-stack : goal.shape_of-stack
-shape_of-stack c = c.loop-p.invariant.0.sized.stack-1 ∙ sym (begin c).requires.flop_rows.1.0.stack-1
+shape_of-stack c = c.loop-p.invariant.0.sized.stack-1 ∙ sym c.requires.flop_rows.1.0.stack-1
 
 pub shape_of-heads : goal.shape_of-heads
-shape_of-heads c = c.loop-p.invariant.0.sized.heads-1 ∙ sym (begin c).requires.flop_rows.1.0.heads-1
+shape_of-heads c = c.loop-p.invariant.0.sized.heads-1 ∙ sym c.requires.flop_rows.1.0.heads-1
 
 pub shape_of-path : goal.shape_of-path
-shape_of-path c = c.loop-p.invariant.0.sized.path-1 ∙ sym (begin c).requires.flop_rows.1.0.path-1
+shape_of-path c = c.loop-p.invariant.0.sized.path-1 ∙ sym c.requires.flop_rows.1.0.path-1
 
 pub shape_of-order : goal.shape_of-order
-shape_of-order c = c.loop-p.invariant.0.sized.order-1 ∙ sym (begin c).requires.flop_rows.1.0.order-1
+shape_of-order c = c.loop-p.invariant.0.sized.order-1 ∙ sym c.requires.flop_rows.1.0.order-1
 
 pub returns : goal.returns
 returns c = let i = c.loop-p.invariant in (all_judged i.0 (omega (arith, i.0.next_le, c.loop-p-test.false)), i.1)

@@ -16,13 +16,13 @@ use Rattle.toposort.proofs.take_turn.Goals as goal
 use Rattle.toposort.proofs.take_turn.Goals.{After-next_turn, Start}
 
 abbrev buffers : Start → Search
-buffers b = stack_in b.args.marks-1 b.args.pos-1 b.args.stack-1 b.args.heads-1
+buffers b = stack_in b.args.marks b.args.pos b.args.stack b.args.heads
 
 top_ready : (b : Start) → TopReady (signal_count b.args.n) (buffers b) b.args.p b.args.top
 top_ready b = ready b.requires.components b.requires.table.2
 
 -- the order has room for the top
-has_room : (b : Start) → b.args.p.done < length b.args.order-1.now
+has_room : (b : Start) → b.args.p.done < length b.args.order.now
 has_room b = let r = top_ready b in order_room b.requires.components b.args.top r.top_below (λ e. omega (arith, r.top_open.left))
 
 -- what the top wants
@@ -55,16 +55,16 @@ next_turn-requires c =
     ((b.requires.table.0, b.requires.components.bounded, b.requires.components.at_places), top_ready b)
 
 pub overflow_sub-count : goal.overflow_sub-count
-overflow_sub-count c = omega (arith, top_ready c)
+overflow_sub-count c = omega (arith, top_ready c.before.before.before.before.before.before.before.before.before.before.before.before.before.before.before.before.before.before)
 
 pub close_top-requires : goal.close_top-requires
-close_top-requires c = may-close c
+close_top-requires c = may-close c.before.before.before.before.before.before.before.before.before.before.before.before.before.before.before.before.before.before
 
 pub close_top-requires-in-Leave : goal.close_top-requires-in-Leave
-close_top-requires-in-Leave c = may-close c
+close_top-requires-in-Leave c = may-close c.before.before.before.before.before.before.before.before.before.before.before.before.before.before.before.before.before
 
 pub raise_top-requires : goal.raise_top-requires
-raise_top-requires c = may-raise c
+raise_top-requires c = may-raise c.before.before.before.before.before.before.before.before.before.before.before.before.before.before.before.before
 
 pub open_signal-requires : goal.open_signal-requires
 open_signal-requires c =
@@ -75,10 +75,10 @@ open_signal-requires c =
     (b.requires.components, ((b.requires.table.0, b.requires.table.1, w.0, w.2), above_read b.requires.components b.requires.table.2 w.1))
 
 pub overflow_sub-q : goal.overflow_sub-q
-overflow_sub-q c = omega (arith, top_ready c)
+overflow_sub-q c = omega (arith, top_ready c.before.before.before.before.before.before.before.before.before.before.before.before.before.before.before)
 
 pub raise_top-requires-in-Meet : goal.raise_top-requires-in-Meet
-raise_top-requires-in-Meet c = may-raise c
+raise_top-requires-in-Meet c = may-raise c.before.before.before.before.before.before.before.before.before.before.before.before.before.before.before.before.before
 
 pub returns-in-Close : goal.returns-in-Close
 returns-in-Close c =

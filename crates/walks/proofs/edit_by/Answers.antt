@@ -18,7 +18,7 @@ front-bits : (b : Start) → Bits (take (wire_count b.args.n (length b.args.inpu
 front-bits b c = rw (zeros_all wire_limit (wire_count b.args.n (length b.args.inputs.now)) c) (omega arith)
 
 pub slice_bounds-wires-end : goal.slice_bounds-wires-end
-slice_bounds-wires-end c = sym (front c)
+slice_bounds-wires-end c = sym (front c.before.before.before.before.before.before.before.before.before)
 
 pub lay_inputs-requires : goal.lay_inputs-requires
 lay_inputs-requires c =

@@ -29,7 +29,7 @@ returns-then-head-n-2 c =
     c.is_marked.ensures ∙ reached_zero _ _ _ _ _ _ c.if-head-n.false c.if-head-n-2.true
 
 pub any_reached-requires-then-head-n-3 : goal.any_reached-requires-then-head-n-3
-any_reached-requires-then-head-n-3 c = row c 3 (omega arith)
+any_reached-requires-then-head-n-3 c = row c.before.before.before.before.before.before.before.before.before 3 (omega arith)
 
 pub returns-then-head-n-3 : goal.returns-then-head-n-3
 returns-then-head-n-3 c =
@@ -37,7 +37,7 @@ returns-then-head-n-3 c =
     c.any_reached-then-head-n-3.ensures ∙ reached_select _ _ _ _ _ _ e.if-head-n.false e.if-head-n-2.false c.if-head-n-3.true
 
 pub any_reached-requires-then-head-n-4 : goal.any_reached-requires-then-head-n-4
-any_reached-requires-then-head-n-4 c = row c 2 (omega arith)
+any_reached-requires-then-head-n-4 c = row c.before.before.before.before.before.before.before.before.before.before 2 (omega arith)
 
 pub returns-then-head-n-4 : goal.returns-then-head-n-4
 returns-then-head-n-4 c =
