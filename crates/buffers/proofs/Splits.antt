@@ -3,7 +3,7 @@ use mathlib.Core.Path.{◌≡◌, refl, ◌∙◌, ap}
 use mathlib.Core.Bool.{Bool, true, false, ◌||◌}
 use mathlib.Core.List.{List}
 use Prim.Native.Nat.{ℕ}
-use Rattle.rules.specs.Rules.{given, ◌orElse◌}
+use Rattle.rules.specs.Rules.{given, ◌or_else◌}
 use Rattle.rules.proofs.Refusals.{or_else_first, or_else_second}
 use Rattle.column.specs.Clock.{State}
 use Rattle.buffers.specs.Buffers.{bad_lengths, bad_bytes, settle_refusal_by, edit_refusal_by}

@@ -3,7 +3,7 @@ use Rattle.std.specs.Prelude.{ℕ, ◌+◌, ◌*◌, ◌/◌, ◌%◌, ◌^◌, 
 use Rattle.netlist.specs.Table.{signal_count}
 use Rattle.slicefile.specs.Lists.{any_below}
 use Rattle.slicefile.specs.Format.{mode}
-use Rattle.rules.specs.Rules.{given, ◌orElse◌}
+use Rattle.rules.specs.Rules.{given, ◌or_else◌}
 use Rattle.clocknumbers.specs.Numbers.{edge_length, kind_place}
 use Rattle.column.specs.Clock.{State}
 use Rattle.column.specs.File.{slice_body}

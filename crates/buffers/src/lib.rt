@@ -4,7 +4,7 @@
 ghost use Rattle.std.specs.Prelude.{◌≡◌, ◌*◌, ◌<◌, ◌≤◌, length};
 ghost use Rattle.slicefile.specs.Format.{slice_limit};
 ghost use Rattle.clocknumbers.specs.Numbers.{edge_length};
-ghost use Rattle.column.specs.Clock.{state_was};
+ghost use Rattle.column.specs.Clock.{state_of};
 ghost use Rattle.buffers.specs.Buffers.{bad_state, bad_lengths, bad_bytes, bad_word_by, bad_words_by, settle_refusal_by, edit_refusal_by, bad_table_by};
 
 use clocknumbers::{EDGE_LENGTH, KINDS};
@@ -13,7 +13,7 @@ use netlist::SLICE_SIGNALS;
 // Whether the contents or the flip-flops have another length than n slices take.
 pub fn bad_state(n: usize, contents: &[u64], flops: &[u8]) -> bool
     requires { n ≤ slice_limit }
-    ensures { result ≡ bad_state n (state_was contents flops) }
+    ensures { result ≡ bad_state n (state_of contents.now flops.now) }
 {
     (contents.len() != 4 * n) | (flops.len() != n)
 }
@@ -28,7 +28,7 @@ fn bad_lengths(
     values: &[u8],
 ) -> bool
     requires { n ≤ slice_limit }
-    ensures { result ≡ bad_lengths n m (state_was contents flops) inputs.now values.now }
+    ensures { result ≡ bad_lengths n m (state_of contents.now flops.now) inputs.now values.now }
 {
     bad_state(n, contents, flops) | (inputs.len() != m) | (values.len() != SLICE_SIGNALS * n)
 }
@@ -91,7 +91,7 @@ pub fn settle_refusal(
     values: &[u8],
 ) -> usize
     requires { (n ≤ slice_limit) × (length edges.now ≡ edge_length * n) }
-    ensures { result ≡ settle_refusal_by (bad_words_by edges.now contents.now) (state_was contents flops) inputs.now values.now n m }
+    ensures { result ≡ settle_refusal_by (bad_words_by edges.now contents.now) (state_of contents.now flops.now) inputs.now values.now n m }
 {
     if bad_lengths(n, m, contents, flops, inputs, values) {
         return 10;
@@ -116,7 +116,7 @@ pub fn edit_refusal(
     values: &[u8],
 ) -> usize
     requires { (n ≤ slice_limit) × (length edges.now ≡ edge_length * n) }
-    ensures { result ≡ edit_refusal_by bad (bad_words_by edges.now contents.now) (state_was contents flops) inputs.now values.now n m }
+    ensures { result ≡ edit_refusal_by bad (bad_words_by edges.now contents.now) (state_of contents.now flops.now) inputs.now values.now n m }
 {
     let number = settle_refusal(edges, n, m, contents, flops, inputs, values);
     if number != 0 {

@@ -7,7 +7,7 @@ use native.Mathlib.Omega.{arith}
 use lib.Dec.{ltb, leb, eqb}
 use lib.ListN.{length, drop}
 use Rattle.slicefile.specs.Format.{slice_limit, size_tag, slice_tag, end_tag, head_length, body_length, record_length, byte_at, pair_at, body_of, slice_count, input_count, number_byte}
-use Rattle.rules.specs.Rules.{given, ◌orElse◌, bad_choice, bad_combination, bad_driver, body_refusal}
+use Rattle.rules.specs.Rules.{given, ◌or_else◌, bad_choice, bad_combination, bad_driver, body_refusal}
 use Rattle.framing.specs.Framing.{header_refusal, bad_size, slice_refusal, size_refusal}
 use Rattle.framing.proofs.RecordLaws.{size_tells}
 use Rattle.column.specs.File.{record_start, file_limit}

@@ -39,7 +39,7 @@ all_at (suc k) f t x h =
     (eq-or-lt_of_le (le_of_suc-le-suc h))
 
 -- a list names just its members
-named : {ys : List ℕ} {y : ℕ} → Memᴰ y ys → T (names ys y)
+named : {y : ℕ} {ys : List ℕ} → Memᴰ y ys → T (names ys y)
 named {y = y} (Memᴰ.head {x = x} {xs = xs} e) = or_left (eqb y x) (names xs y) (subst (λ (v : ℕ). T (eqb y v)) e (eqb_refl y))
 named {y = y} (Memᴰ.tail {x = x} {xs = xs} m) = or_right (eqb y x) (names xs y) (named m)
 
@@ -74,7 +74,7 @@ abbrev pub chained : (ℕ → List ℕ) → ℕ → List ℕ → ℕ → Bool
 chained reads x [] z = names (reads x) z
 chained reads x (y ∷ ys) z = names (reads x) y && chained reads y ys z
 
-named_at : (ys zs : List ℕ) → T (all_named ys zs) → {y : ℕ} → Memᴰ y ys → T (names zs y)
+named_at : {y : ℕ} (ys zs : List ℕ) → T (all_named ys zs) → Memᴰ y ys → T (names zs y)
 named_at ys zs t (Memᴰ.head {x = x} {xs = xs} e) = subst (λ (v : ℕ). T (names zs v)) (sym e) (and_left (names zs x) (all_named xs zs) t)
 named_at ys zs t (Memᴰ.tail {x = x} {xs = xs} m) = named_at xs zs (and_right (names zs x) (all_named xs zs) t) m
 

@@ -1,6 +1,6 @@
 -- Whether one of the edits in words is bad, found one after another. Assumes nothing.
 use mathlib.Core.Path.{◌≡◌, sym, ◌∙◌}
-use mathlib.Core.Bool.{Bool, ◌||◌, or_assoc, or_false}
+use mathlib.Core.Bool.{Bool, ◌||◌, or_assoc, or-false}
 use mathlib.Core.List.{List}
 use Prim.Native.Nat.{ℕ, ◌+◌, ◌-◌, ◌≤◌, ◌<◌}
 use Rattle.editlist.specs.Listed.{edit_at, edits_from}
@@ -14,4 +14,4 @@ module _ (bad : ℕ → ℕ → Bool) (m : ℕ) (words : List ℕ) (i count : �
 
   -- none is left
   pub bad_end : count ≤ i → found ≡ all
-  bad_end h = sym (or_false found) ∙ (rw (edits_end words _ _ h) at left)
+  bad_end h = sym (or-false found) ∙ (rw (edits_end words _ _ h) at left)

@@ -1,6 +1,6 @@
 -- Edits stored one after another. Assumes nothing.
 use mathlib.Core.Path.{◌≡◌, refl, sym, ◌∙◌, ap, subst⁻¹}
-use mathlib.Core.Bool.{Bool, true, false, ◌||◌, or_false}
+use mathlib.Core.Bool.{Bool, true, false, ◌||◌, or-false}
 use mathlib.Core.List.{List, [], ◌∷◌}
 use Prim.Native.Nat.{ℕ, ◌+◌, ◌-◌, ◌*◌, ◌≤◌, ◌<◌}
 use native.Mathlib.Omega.{arith}
@@ -29,11 +29,11 @@ none_stored s = record { made = λ flops. refl; marked = λ gate. refl }
 module _ (contents inputs changed edited : List ℕ) where
   pub input_stored : (j b : ℕ) → j < length changed → Stored (OfInput j b ∷ []) (store contents inputs changed edited) (store contents (set inputs j b) (set changed j 1) edited)
   input_stored j b h =
-      record { made = λ flops. refl; marked = λ gate. mark_input changed edited j h gate ∙ ap (λ (t : Bool). t || touches_marked changed edited gate) (sym (or_false (touches_input j gate))) }
+      record { made = λ flops. refl; marked = λ gate. mark_input changed edited j h gate ∙ ap (λ (t : Bool). t || touches_marked changed edited gate) (sym (or-false (touches_input j gate))) }
 
   pub contents_stored : (t w : ℕ) → t < length edited → Stored (OfContents t w ∷ []) (store contents inputs changed edited) (store (set contents t w) inputs changed (set edited t 1))
   contents_stored t w h =
-      record { made = λ flops. refl; marked = λ gate. mark_table changed edited t h gate ∙ ap (λ (t : Bool). t || touches_marked changed edited gate) (sym (or_false (touches_table t gate))) }
+      record { made = λ flops. refl; marked = λ gate. mark_table changed edited t h gate ∙ ap (λ (t : Bool). t || touches_marked changed edited gate) (sym (or-false (touches_table t gate))) }
 
 -- one before others
 then_stored : {c : Change} {cs : List Change} {a b d : Store} → Stored (c ∷ []) a b → Stored cs b d → Stored (c ∷ cs) a d

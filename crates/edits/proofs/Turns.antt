@@ -1,6 +1,6 @@
 -- The edit call leaves what calls with one edit each leave in turn. Assumes nothing.
 use mathlib.Core.Path.{◌≡◌, refl, ◌∙◌}
-use mathlib.Core.Bool.{false, ◌||◌, or_false}
+use mathlib.Core.Bool.{false, ◌||◌, or-false}
 use mathlib.Core.List.{List, [], ◌∷◌}
 use Prim.Native.Nat.{ℕ, ◌≤◌}
 use native.Mathlib.Omega.{arith}
@@ -50,7 +50,7 @@ module _ (file : List ℕ) {n m : ℕ} (j : Judged file (Accepted n m)) where
       → Steps (gate_at file) (signal_count n) e t (changes_of es) after v → InTurn file e t es after v
   steps_turns [] good none-bad none = no_call
   steps_turns {e} {t = t} (x ∷ es) good none-bad (next {u = u} d s) =
-      let here : (bad_edit (bad_table file n) m x || false) ≡ false = or_false _ ∙ or_left (bad_edit (bad_table file n) m x) (any_bad (bad_table file n) m es) none-bad in
+      let here : (bad_edit (bad_table file n) m x || false) ≡ false = or-false _ ∙ or_left (bad_edit (bad_table file n) m x) (any_bad (bad_table file n) m es) none-bad in
       let c = steps_made (x ∷ []) good (omega arith) here (next d none) in
       call_then c (steps_turns es (edits_leave file j e (changed e (change_of x)) (x ∷ []) t u c) (or_right (bad_edit (bad_table file n) m x) (any_bad (bad_table file n) m es) none-bad) s)
 
@@ -62,7 +62,7 @@ module _ (file : List ℕ) {n m : ℕ} (j : Judged file (Accepted n m)) where
       let w = done_there file (edits_refusal file e (x ∷ []) t) j c in
       let r = turns_steps rest in
       let here = edits_fit file n m (x ∷ []) (edit_argument _ file (state_in e) e.inputs t n m w.0) in (
-        next (edited_as (λ y. or_false (touches (change_of x) (gate_at file y))) (rw w.1.0 at w.1.1)) (rw w.1.0 at r.0),
+        next (edited_as (λ y. or-false (touches (change_of x) (gate_at file y))) (rw w.1.0 at w.1.1)) (rw w.1.0 at r.0),
         rw (or_left (bad_edit (bad_table file n) m x) false here, r.1),
       )
 

@@ -10,7 +10,7 @@ use lib.Dec.{ltb, leb, eqb}
 use lib.ListN.{length, take, drop, length-append, length-drop, get_or-append}
 use lib.Seq.{take-append-le, drop-append-le}
 use Rattle.slicefile.specs.Format.{size_tag, slice_tag, end_tag, head_length, body_length, record_length, byte_at, pair_at, body_of, number_byte}
-use Rattle.rules.specs.Rules.{given, ◌orElse◌, bad_choice, bad_combination, bad_driver, body_refusal}
+use Rattle.rules.specs.Rules.{given, ◌or_else◌, bad_choice, bad_combination, bad_driver, body_refusal}
 use Rattle.framing.specs.Framing.{header_refusal, bad_size, slice_refusal, size_refusal}
 use Rattle.rules.proofs.Refusals.{or_else_second}
 use Rattle.framing.proofs.RecordLaws.{header_whole}

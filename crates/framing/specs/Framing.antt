@@ -1,7 +1,7 @@
 -- Refusals 1 to 5 of a record as a whole, in the paper's order, before and around the rules of a slice's body.
 use Rattle.std.specs.Prelude.{ℕ, Bool, not, ◌&&◌, ◌||◌, List, leb, ltb, eqb, length}
 use Rattle.slicefile.specs.Format.{slice_limit, input_limit, size_tag, slice_tag, end_tag, head_length, body_length, record_length, byte_at, pair_at, body_of, slice_count, input_count}
-use Rattle.rules.specs.Rules.{given, ◌orElse◌, body_refusal}
+use Rattle.rules.specs.Rules.{given, ◌or_else◌, body_refusal}
 
 -- "header whole (1), tag known (2), due (4), length (3), body whole (1)", of the record that begins the list
 unfoldable pub header_refusal : ℕ → List ℕ → ℕ

@@ -9,7 +9,7 @@ use borrow.Author.Tests.{ne_eqb}
 use lib.ListN.{length}
 use Rattle.slicefile.specs.declared.Answer.{Answer}
 use Rattle.slicefile.specs.declared.Answer.TheVariants.{Refused, Done}
-use Rattle.rules.specs.Rules.{given, ◌orElse◌}
+use Rattle.rules.specs.Rules.{given, ◌or_else◌}
 use Rattle.editlist.specs.declared.Edit.{Edit}
 use Rattle.slicerecord.specs.Record.{record_of}
 use Rattle.recordcalls.specs.Calls.{write_refusal, answer_of, unless, written}

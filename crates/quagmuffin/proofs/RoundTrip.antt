@@ -7,7 +7,7 @@ use native.Mathlib.Omega.{arith}
 use borrow.Author.Tests.{eqb-true, not-false}
 use lib.ListN.{length, take, drop}
 use Rattle.slicefile.specs.Format.{slice_tag, body_length, record_length, body_of}
-use Rattle.rules.specs.Rules.{given, ◌orElse◌}
+use Rattle.rules.specs.Rules.{given, ◌or_else◌}
 use Rattle.rules.proofs.Refusals.{or_else_left, or_else_right, given_none}
 use Rattle.slicerecord.specs.Record.{record_of, body_bytes, Below}
 use Rattle.slicerecord.proofs.RoundTrip.{bytes_of_record}

@@ -2,7 +2,7 @@
 use Rattle.std.specs.Prelude.{ℕ, ◌≡◌, Bool, not, List, eqb, length}
 use Rattle.slicefile.specs.Format.{slice_tag, body_length}
 use Rattle.slicefile.specs.declared.Answer.{Answer}
-use Rattle.rules.specs.Rules.{given, ◌orElse◌}
+use Rattle.rules.specs.Rules.{given, ◌or_else◌}
 use Rattle.slicerecord.specs.Record.{record_of, body_bytes}
 use Rattle.recordcalls.specs.Calls.{read_refusal, write_refusal, answer_of, unless, read_record, written}
 use Rattle.quagmuffin.specs.Packed.{pack_answer}

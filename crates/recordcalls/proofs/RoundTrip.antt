@@ -10,7 +10,7 @@ use lib.ListN.{length, take, drop, replicate, length-drop}
 use lib.Seq.{take_all, take_at, length-take-le}
 use Rattle.slicefile.specs.Format.{slice_tag, head_length, body_length, record_length, byte_at, body_of}
 use Rattle.slicefile.specs.Lists.{tabulate}
-use Rattle.rules.specs.Rules.{given, ◌orElse◌}
+use Rattle.rules.specs.Rules.{given, ◌or_else◌}
 use Rattle.framing.specs.Framing.{header_refusal, bad_size}
 use Rattle.slicefile.specs.declared.Answer.TheVariants.{Done}
 use Rattle.rules.proofs.Refusals.{or_else_left, or_else_right, given_none}

@@ -5,7 +5,7 @@ use Prim.Native.Nat.{ℕ, zero, suc, ◌%◌, ◌<◌, ◌≤◌}
 use native.Mathlib.Omega.{arith}
 use lib.Dec.{ltb, eqb, lit≤}
 use Rattle.slicefile.specs.Format.{slice_tag, record_length, body_of, number_byte}
-use Rattle.rules.specs.Rules.{given, ◌orElse◌, bad_choice, bad_combination, bad_driver, body_refusal}
+use Rattle.rules.specs.Rules.{given, ◌or_else◌, bad_choice, bad_combination, bad_driver, body_refusal}
 use Rattle.framing.specs.Framing.{header_refusal, bad_size}
 use Rattle.slicerecord.specs.Record.{record_bytes, Sized}
 use Rattle.recordcalls.specs.Calls.{record_refusal, write_refusal}

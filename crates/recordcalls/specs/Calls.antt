@@ -1,7 +1,7 @@
 -- What the two record calls answer: "The two record calls test 10, then n and m (11), before the rest; they give place 0 and no record".
 use Rattle.std.specs.Prelude.{ℕ, zero, suc, not, List, ◌++◌, ltb, eqb, length, drop, replicate}
 use Rattle.slicefile.specs.Format.{slice_tag, body_length, record_length, body_of, number_byte}
-use Rattle.rules.specs.Rules.{given, ◌orElse◌, body_refusal}
+use Rattle.rules.specs.Rules.{given, ◌or_else◌, body_refusal}
 use Rattle.framing.specs.Framing.{header_refusal, bad_size}
 use Rattle.slicerecord.specs.Record.{record_of, record_bytes}
 use Rattle.slicerecord.specs.declared.Record.{Record}

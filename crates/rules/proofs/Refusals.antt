@@ -3,7 +3,7 @@ use mathlib.Core.Path.{◌≡◌, refl}
 use mathlib.Core.Bool.{Bool, true, false}
 use Prim.Native.Nat.{ℕ, zero, suc}
 use native.Mathlib.Omega.{arith}
-use Rattle.rules.specs.Rules.{given, ◌orElse◌}
+use Rattle.rules.specs.Rules.{given, ◌or_else◌}
 
 -- where no refusal is given, neither part gives one
 pub or_else_left : (a b : ℕ) → a or_else b ≡ 0 → a ≡ 0

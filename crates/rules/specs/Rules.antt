@@ -12,8 +12,8 @@ given k true = k
 given k false = 0
 
 -- the first refusal that is not 0
-infixr 20 ◌orElse◌
-abbrev pub ◌orElse◌ : ℕ → ℕ → ℕ
+infixr 20 ◌or_else◌
+abbrev pub ◌or_else◌ : ℕ → ℕ → ℕ
 zero or_else b = b
 (suc a) or_else b = suc a
 

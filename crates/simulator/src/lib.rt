@@ -4,7 +4,7 @@
 ghost use Rattle.std.specs.Prelude.{◌≡◌, ◌*◌, length};
 ghost use Rattle.netlist.specs.Table.{signal_count, wire_count};
 ghost use Rattle.evaluation.specs.Numbers.{Bits};
-ghost use Rattle.column.specs.Clock.{state_was, state_left};
+ghost use Rattle.column.specs.Clock.{state_of, state_was, state_left};
 ghost use Rattle.plan.specs.Plan.{Runnable};
 ghost use Rattle.simulator.specs.Running.{SettlePlanned, ClockPlanned, Clocked, Settles, Clocks};
 
@@ -25,7 +25,7 @@ fn settle_planned(
     wires: &mut [u8],
 ) -> Answer
     requires { Runnable n m plan.now × (length wires.old ≡ wire_count n m) × Bits wires.old }
-    ensures { SettlePlanned plan.now n m (state_was contents flops) inputs.now values.old values.new result }
+    ensures { SettlePlanned plan.now n m (state_of contents.now flops.now) inputs.now values.old values.new result }
 {
     let edges = plan::edges(plan, n);
     let number = buffers::settle_refusal(edges, n, m, contents, flops, inputs, values);

@@ -1,6 +1,6 @@
 -- The test whether a change reaches a gate, by marks of inputs, tables and signals. Assumes nothing.
 use mathlib.Core.Path.{◌≡◌, refl, sym, ◌∙◌, ap, ap₂}
-use mathlib.Core.Bool.{Bool, true, false, ◌&&◌, ◌||◌, or_comm, or_assoc, or_false}
+use mathlib.Core.Bool.{Bool, true, false, ◌&&◌, ◌||◌, or_comm, or_assoc, or-false}
 use mathlib.Core.List.{List, [], ◌∷◌}
 use Prim.Native.Nat.{ℕ, ◌-◌, ◌%◌, ◌≤◌, ◌<◌}
 use native.Mathlib.Decide.{ℕ_discrete, dec_lt}
@@ -46,7 +46,7 @@ number_tests n inputs signals c few = by (dec_lt c signal_wire) (dec_lt c (input
     by (yes l) d = rw (lt-ltb c signal_wire l, lt-leb signal_wire c l, lt-leb (input_wire n) c (omega arith))
     by (no l) (yes h) =
         let e : (c - signal_wire) % signal_limit ≡ c - signal_wire = omega arith in
-        rw (le-ltb c signal_wire (omega arith), lt-ltb c (input_wire n) h, le-leb signal_wire c (omega arith), lt-leb (input_wire n) c h, e) (or_false (is_marked signals (c - signal_wire)))
+        rw (le-ltb c signal_wire (omega arith), lt-ltb c (input_wire n) h, le-leb signal_wire c (omega arith), lt-leb (input_wire n) c h, e) (or-false (is_marked signals (c - signal_wire)))
     by (no l) (no h) =
         rw (le-ltb c signal_wire (omega arith), le-ltb c (input_wire n) (omega arith), le-leb signal_wire c (omega arith), le-leb (input_wire n) c (omega arith))
 

@@ -1,6 +1,6 @@
 -- Whether a change reaches a signal's gate, by the head of its row in the gate table. Assumes nothing.
 use mathlib.Core.Path.{◌≡◌, ◌∙◌}
-use mathlib.Core.Bool.{Bool, false, ◌||◌, or_false}
+use mathlib.Core.Bool.{Bool, false, ◌||◌, or-false}
 use mathlib.Core.List.{List}
 use Prim.Native.Nat.{ℕ, suc, ◌+◌, ◌-◌, ◌*◌, ◌≤◌, ◌<◌}
 use native.Mathlib.Omega.{arith}
@@ -61,17 +61,17 @@ module _ (changed edited marks table : List ℕ) (n x : ℕ) where
   module _ (a : 4 * n ≤ head) (b : select_head n ≤ head) where
     pub reached_select : head ≡ select_head n → first 3 ≡ reached
     unfolding sources_of gate_with gate_of any_reached
-    reached_select h = so (simp (le-ltb _ _ a, le-ltb _ _ b, eq-eqb _ _ h, p2, p3, or_false))
+    reached_select h = so (simp (le-ltb _ _ a, le-ltb _ _ b, eq-eqb _ _ h, p2, p3, or-false))
 
     module _ (d : head ≡ select_head n → ⊥) where
       pub reached_xor : head ≡ select_head n + 1 → first 2 ≡ reached
       unfolding sources_of gate_with gate_of any_reached
-      reached_xor h = so (simp (le-ltb _ _ a, le-ltb _ _ b, ne_eqb _ _ d, eq-eqb _ _ h, p2, or_false))
+      reached_xor h = so (simp (le-ltb _ _ a, le-ltb _ _ b, ne_eqb _ _ d, eq-eqb _ _ h, p2, or-false))
 
       module _ (f : head ≡ select_head n + 1 → ⊥) where
         pub reached_same : head ≡ select_head n + 2 → source_reached changed marks (source_of n (get_or table (row_length * x + 1) 0)) ≡ reached
         unfolding sources_of gate_with gate_of
-        reached_same h = so (simp (le-ltb _ _ a, le-ltb _ _ b, ne_eqb _ _ d, ne_eqb _ _ f, eq-eqb _ _ h, or_false))
+        reached_same h = so (simp (le-ltb _ _ a, le-ltb _ _ b, ne_eqb _ _ d, ne_eqb _ _ f, eq-eqb _ _ h, or-false))
 
         pub reached_stored : (head ≡ select_head n + 2 → ⊥) → false ≡ reached
         unfolding sources_of gate_with gate_of

@@ -57,6 +57,6 @@ returns c =
     let a = k.args in
     let v = k.v-1.given.0 in
     planned_called a.file.now _ (ready k).verdict
-    (settle_same a.file.now (ready k) (state_of a.contents-1.now a.flops-1.now) a.inputs.now a.values-1.now (v.1.0 * clock_count a.inputs.now v.1.0))
+    (settle_same a.file.now (ready k) (state_of a.contents.now a.flops.now) a.inputs.now a.values.now (v.1.0 * clock_count a.inputs.now v.1.0))
     (λ made. made a.file.now (ready k))
     p.row_planned.ensures

@@ -24,7 +24,7 @@ counted k = k.before.before.before.before.before
 -- the refusal by the plan
 refusal : (k : After-settle_refusal-number) → let a = (start (counted k)).args in
     k.settle_refusal-number.result
-    ≡ plan_refusal a.plan.now a.n (a.m * clock_count a.inputs.now a.m) (state_of a.contents-1.now a.flops-1.now) a.inputs.now a.values-1.now
+    ≡ plan_refusal a.plan.now a.n (a.m * clock_count a.inputs.now a.m) (state_of a.contents.now a.flops.now) a.inputs.now a.values.now
 refusal k = rw (k.edges-edges.ensures, (counted k).clock_count-k.ensures) at k.settle_refusal-number.ensures
 
 pub overflow_mul-m : goal.overflow_mul-m
@@ -48,7 +48,7 @@ run_clocks-requires c =
     let b = start (counted k) in
     let p = settle_passed _ _ _ _ _ _ (sym (refusal k) ∙ e.if-number-ne0.false) in
     let l = p.0 in
-    (b.requires, ((l.contents-1, l.flops-1, l.values-1), (l.inputs ∙ ap (λ (j : ℕ). b.args.m * j) (sym (counted k).clock_count-k.ensures), p.1)))
+    (b.requires, ((l.contents, l.flops, l.values), (l.inputs ∙ ap (λ (j : ℕ). b.args.m * j) (sym (counted k).clock_count-k.ensures), p.1)))
 
 pub returns : goal.returns
 returns c =

@@ -51,7 +51,7 @@ loop-k-preserved c =
     let a = b.args in
     let x = slice_signals * a.s + l.k in
     let e = rw (r.row_at-row.ensures, b.slice_body-body.ensures, ← gate_of_slice a.file.now f a.s l.k (omega arith)) at c.put_row.ensures in
-    (omega arith, c.put_row.auto.0 ∙ l.invariant.1, λ y i h j. rw e (lower_next a.file.now f l.table-1 x (omega arith) l.invariant.1 l.invariant.2 y i (omega arith) j))
+    (omega arith, c.put_row.auto.0 ∙ l.invariant.1, λ y i h j. rw e (lower_next a.file.now f l.table x (omega arith) l.invariant.1 l.invariant.2 y i (omega arith) j))
 
 pub shape_of-table : goal.shape_of-table
 shape_of-table c = c.loop-k.invariant.1 ∙ sym c.requires.sound.2

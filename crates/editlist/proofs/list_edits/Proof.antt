@@ -13,7 +13,7 @@ use lib.Dec.{T as Holds, ltb, ltb→lt, nltb→le, lit<}
 use lib.ListN.{length, get_or, replicate, length-replicate}
 use lib.WfN.{lt-wf_rel}
 use seplogic.Ra.Ura.{Ura}
-use seplogic.Ra.TreeShare.{full_share}
+use base.Fraction.{full_share}
 use package.mir.Syntax.{Ty, Body, named, erased, imm, mut, w64, ty_int, ty_bool, ty_ref, ty_unit, unsigned, add, place, copy, int, call, seq, assign, op2, addr_of, aggregate}
 use package.mir.Val.{Val, vint}
 use base.Logic.{SProp, ent, emp, via, fst∗, snd∗, ex_e, id⊢}

@@ -25,4 +25,4 @@ returns c =
     let p = c in
     let k = p in
     let a = k.args in
-    edits_file a.file.now (ready k) _ _ _ a.values-1.now _ p.edit_planned.ensures
+    edits_file a.file.now (ready k) _ _ _ a.values.now _ p.edit_planned.ensures

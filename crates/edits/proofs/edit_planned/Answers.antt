@@ -1,6 +1,6 @@
 -- `edits::edit_planned` meets its contract: the marks say what the changes of the list touch. Assumes nothing.
 use mathlib.Core.Path.{◌≡◌, ◌∙◌, refl, sym, ap}
-use mathlib.Core.Bool.{Bool, ◌||◌, or_false}
+use mathlib.Core.Bool.{Bool, ◌||◌, or-false}
 use mathlib.Core.List.{List}
 use Prim.Native.Nat.{◌*◌, ◌≤◌}
 use native.Mathlib.Omega.{arith}
@@ -68,7 +68,7 @@ store_edits-requires c =
     let e = c in
     let b = begin e in
     let p = (edit_passed _ _ _ _ _ _ _ (none e)).0 in
-    ((b.requires.1, (there e).0), (rw (p.contents-1, p.inputs-1) (there e).1, (omega (arith, p.inputs-1, b.requires.0.narrow), omega (arith, p.contents-1, b.requires.0.few))))
+    ((b.requires.1, (there e).0), (rw (p.contents, p.inputs) (there e).1, (omega (arith, p.inputs, b.requires.0.narrow), omega (arith, p.contents, b.requires.0.few))))
 
 pub order-order-requires : goal.order-order-requires
 order-order-requires c =
@@ -83,8 +83,8 @@ edit_by-requires c =
     let b = begin e in
     let p = edit_passed _ _ _ _ _ _ _ (none e) in
     let same : length s.store_edits.new.1.1.1.0 ≡ length b.args.inputs.now = search rules in
-    let long = same ∙ p.0.inputs-1 in
-    ((parts_walk b.requires.0 t.table-table.ensures c.order-order.ensures long, p.0.values-1), (omega (arith, long, b.requires.0.narrow), search rules, stored_bits _ _ (there e).1 s.store_edits.ensures p.1, p.2))
+    let long = same ∙ p.0.inputs in
+    ((parts_walk b.requires.0 t.table-table.ensures c.order-order.ensures long, p.0.values), (omega (arith, long, b.requires.0.narrow), search rules, stored_bits _ _ (there e).1 s.store_edits.ensures p.1, p.2))
 
 pub returns : goal.returns
 returns c =
@@ -97,6 +97,6 @@ returns c =
     plan_done (none e) (
       stored.made b.args.flops.now,
       edited_plan b.args.plan.now b.args.n _ _ cs t.table-table.ensures
-          (λ gate. stored.marked gate ∙ ap (λ (m : Bool). touches_any cs gate || m) (marks_none input_limit (4 * slice_limit) gate) ∙ or_false (touches_any cs gate))
+          (λ gate. stored.marked gate ∙ ap (λ (m : Bool). touches_any cs gate || m) (marks_none input_limit (4 * slice_limit) gate) ∙ or-false (touches_any cs gate))
           c.edit_by.ensures b.args.flops.now,
     )

@@ -21,7 +21,7 @@ store_edit-requires c =
     let a = (start l).args in
     let same = l.loop-i.invariant.1.same in
     let marks = (start l).requires.marks in
-    (next_there a.words.now a.count _ l.loop-i.i l.loop-i.invariant.1 (search rules), (omega (arith, same.inputs-1, same.changed-1, marks.0), omega (arith, same.contents-1, same.edited-1, marks.1)))
+    (next_there a.words.now a.count _ l.loop-i.i l.loop-i.invariant.1 (search rules), (omega (arith, same.inputs, same.changed, marks.0), omega (arith, same.contents, same.edited, marks.1)))
 
 pub loop-i-preserved : goal.loop-i-preserved
 loop-i-preserved c =

@@ -57,4 +57,4 @@ returns c =
     let a = c.args in
     let e = places (row_length * a.x) in
     rw (e.0, e.1, e.2, e.3, e.4, e.5)
-    (ap (sets a.table.now (row_length * a.x)) (sym (whole a.t3 (good_length (e_int w16) row_length a.t3 _ c.well_formed.1.1.0))))
+    (ap (sets a.table.now (row_length * a.x)) (sym (whole a.row (good_length (e_int w16) row_length a.row _ c.well_formed.1.1.0))))

@@ -14,10 +14,10 @@ use Rattle.quagmuffin.proofs.qm_feed.Goals.{After-feed-fed}
 -- what the call below does, from the reader of the state
 fed : (c : After-feed-fed)
     → let a = c.args in
-    Feeds (reader_of a.state-1.now) a.store-1.now a.run.now (is_last a.last) c.feed-fed.result c.feed-fed.new.1.0
+    Feeds (reader_of a.state.now) a.store.now a.run.now (is_last a.last) c.feed-fed.result c.feed-fed.new.1.0
 fed c =
     let a = c.args in
-    subst (λ (r : Reader). Feeds r a.store-1.now a.run.now (is_last a.last) c.feed-fed.result c.feed-fed.new.1.0) c.load_reader-reader.ensures c.feed-fed.ensures
+    subst (λ (r : Reader). Feeds r a.store.now a.run.now (is_last a.last) c.feed-fed.result c.feed-fed.new.1.0) c.load_reader-reader.ensures c.feed-fed.ensures
 
 fits : (c : After-feed-fed) → FitsReply c.feed-fed.result.reply × FitsReply c.feed-fed.result.reader.said
 fits c =

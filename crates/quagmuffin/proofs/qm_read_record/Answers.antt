@@ -19,5 +19,5 @@ pub returns : goal.returns
 returns c =
     let r = c in
     let a = r.args in
-    let z = read_sized a.bytes.now a.n a.m a.body-1.now r.if-body-ne-SLICE_BODY.false in
+    let z = read_sized a.bytes.now a.n a.m a.body.now r.if-body-ne-SLICE_BODY.false in
     (c.pack_answer.ensures ∙ rw (r.read_body.ensures.0, z.0), r.read_body.ensures.1 ∙ sym z.1)

@@ -20,6 +20,6 @@ returns c =
     let w = c in
     let d = w in
     let a = d.args in
-    let z = write_sized a.body.now a.n a.m a.part-1.now d.if-body-ne-SLICE_BODY.false in
+    let z = write_sized a.body.now a.n a.m a.part.now d.if-body-ne-SLICE_BODY.false in
     let same = d.decode-slice.ensures in
     (c.pack_answer.ensures ∙ rw (w.write_record.ensures.0, same, z.0), w.write_record.ensures.1 ∙ rw same (sym z.1))

@@ -16,7 +16,7 @@ returns-in_default c =
     let r = c.read_record-reading in
     let e = read_answer _ _ _ r.ensures in
     let a = c.args in
-    (e, read_kept a.bytes.now a.n a.m a.body-1.now e c.enum_told-in_default-1.given.1)
+    (e, read_kept a.bytes.now a.n a.m a.body.now e c.enum_told-in_default-1.given.1)
 
 pub returns : goal.returns
 returns c =

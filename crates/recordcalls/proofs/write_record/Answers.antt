@@ -12,7 +12,7 @@ use Rattle.recordcalls.proofs.write_record.Goals as goal
 use Rattle.recordcalls.proofs.write_record.Goals.{After-record_refusal-number}
 
 -- the rules on the encoded record decide
-decided : (c : After-record_refusal-number) → let at = c.args in write_refusal at.slice at.n at.m (length at.part-1.now) ≡ c.record_refusal-number.result
+decided : (c : After-record_refusal-number) → let at = c.args in write_refusal at.slice at.n at.m (length at.part.now) ≡ c.record_refusal-number.result
 unfolding write_refusal
 decided c =
     let b = c in
@@ -37,5 +37,5 @@ returns c =
     let e = d in
     let at = e.args in
     let l : length e.encode-bytes.result ≡ record_length slice_tag = search rules in
-    let w = write_done at.slice at.n at.m at.part-1.now (decided d ∙ c.if-number-ne0.false) in
-    (w.0, c.put_bytes.ensures ∙ sets_front at.part-1.now e.encode-bytes.result (record_length slice_tag) l (search rules) ∙ rw e.encode-bytes.ensures w.1)
+    let w = write_done at.slice at.n at.m at.part.now (decided d ∙ c.if-number-ne0.false) in
+    (w.0, c.put_bytes.ensures ∙ sets_front at.part.now e.encode-bytes.result (record_length slice_tag) l (search rules) ∙ rw e.encode-bytes.ensures w.1)

@@ -68,8 +68,8 @@ loop-s-preserved c =
     let f = within p.before.before.before.before in (
       search rules,
       ap (λ (p : ℕ). p + record_length slice_tag) at.invariant.1 ∙ sym (start_next _ at.s),
-      same_len_mid at.at (length at.out-1 - at.at) at.out-1 p.put_slice.new.1.1.1.0 p.put_slice.auto.1.1.1.0 ∙ at.invariant.2,
-      rw p.put_slice.ensures (slice_next _ f at.out-1 _ _ at.s at.at (search rules) at.invariant.1 at.invariant.2 at.invariant.3),
+      same_len_mid at.at (length at.out - at.at) at.out p.put_slice.new.1.1.1.0 p.put_slice.auto.1.1.1.0 ∙ at.invariant.2,
+      rw p.put_slice.ensures (slice_next _ f at.out _ _ at.s at.at (search rules) at.invariant.1 at.invariant.2 at.invariant.3),
     )
 
 pub put_bytes-requires-2 : goal.put_bytes-requires-2
@@ -84,4 +84,4 @@ pub returns : goal.returns
 returns c =
     let p = c in
     let l = p in
-    p.put_bytes-2.ensures ∙ end_next _ (within l) l.loop-s.out-1 l.loop-s.at (at-end p.before.before.before) l.loop-s.invariant.2 l.loop-s.invariant.3
+    p.put_bytes-2.ensures ∙ end_next _ (within l) l.loop-s.out l.loop-s.at (at-end p.before.before.before) l.loop-s.invariant.2 l.loop-s.invariant.3

@@ -12,5 +12,5 @@ returns c =
     let k = w in
     let b = k in
     w.write_record.ensures.1
-    ∙ ap (λ (r : Reading). written r.slice-1 b.args.n b.args.m b.args.part.now) k.read_record-reading.ensures
+    ∙ ap (λ (r : Reading). written r.slice b.args.n b.args.m b.args.part.now) k.read_record-reading.ensures
     ∙ (write_read b.args.bytes.now b.args.n b.args.m b.args.part.now (λ i. (k.type_inv.bytes i).fits) b.requires.0 b.requires.1).1

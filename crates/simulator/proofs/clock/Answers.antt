@@ -53,4 +53,4 @@ returns c =
     let p = c in
     let k = p in
     let a = k.args in
-    clock_file a.file.now (ready k) (state_of a.contents-1.now a.flops-1.now) a.inputs.now a.values-1.now _ _ p.clock_planned.ensures
+    clock_file a.file.now (ready k) (state_of a.contents.now a.flops.now) a.inputs.now a.values.now _ _ p.clock_planned.ensures

@@ -13,7 +13,7 @@ use Rattle.simulator.proofs.clock_planned.Goals.{After-settle_refusal-number}
 
 -- the refusal by the plan
 refusal : (k : After-settle_refusal-number) → let a = k.args in
-    k.settle_refusal-number.result ≡ plan_refusal a.plan.now a.n a.m (state_of a.contents-1.now a.flops-1.now) a.inputs.now a.values-1.now
+    k.settle_refusal-number.result ≡ plan_refusal a.plan.now a.n a.m (state_of a.contents.now a.flops.now) a.inputs.now a.values.now
 refusal k = rw k.edges-edges.ensures at k.settle_refusal-number.ensures
 
 pub settle_refusal-number-requires : goal.settle_refusal-number-requires
@@ -29,7 +29,7 @@ clock_by-requires c =
     let b = k in
     let p = settle_passed _ _ _ _ _ _ (sym (refusal k) ∙ e.if-number-ne0.false) in
     let l = p.0 in
-    ((rw l.inputs b.requires.0, b.requires.1 ∙ ap (wire_count b.args.n) (sym l.inputs)), ((l.contents-1, l.flops-1, l.values-1), (p.1, b.requires.2)))
+    ((rw l.inputs b.requires.0, b.requires.1 ∙ ap (wire_count b.args.n) (sym l.inputs)), ((l.contents, l.flops, l.values), (p.1, b.requires.2)))
 
 pub returns : goal.returns
 returns c =

@@ -53,4 +53,4 @@ returns c =
     let p = c in
     let k = p in
     let a = k.args in
-    settle_file a.file.now (ready k) (state_of a.contents.now a.flops.now) a.inputs.now a.values-1.now _ p.settle_planned.ensures
+    settle_file a.file.now (ready k) (state_of a.contents.now a.flops.now) a.inputs.now a.values.now _ p.settle_planned.ensures

@@ -13,7 +13,7 @@ use Rattle.simulator.proofs.settle_planned.Goals.{After-settle_refusal-number}
 
 -- the refusal by the plan
 refusal : (k : After-settle_refusal-number) → let a = k.args in
-    k.settle_refusal-number.result ≡ plan_refusal a.plan.now a.n a.m (state_of a.contents.now a.flops.now) a.inputs.now a.values-1.now
+    k.settle_refusal-number.result ≡ plan_refusal a.plan.now a.n a.m (state_of a.contents.now a.flops.now) a.inputs.now a.values.now
 refusal k = rw k.edges-edges.ensures at k.settle_refusal-number.ensures
 
 pub settle_refusal-number-requires : goal.settle_refusal-number-requires
@@ -29,7 +29,7 @@ settle_by-requires c =
     let b = k in
     let p = settle_passed _ _ _ _ _ _ (sym (refusal k) ∙ t.if-number-ne0.false) in
     let l = p.0 in
-    ((parts_walk b.requires.0 t.table-table.ensures c.order-order.ensures l.inputs, l.flops, l.values-1), (b.requires.1 ∙ ap (wire_count b.args.n) (sym l.inputs), p.1, b.requires.2))
+    ((parts_walk b.requires.0 t.table-table.ensures c.order-order.ensures l.inputs, l.flops, l.values), (b.requires.1 ∙ ap (wire_count b.args.n) (sym l.inputs), p.1, b.requires.2))
 
 pub returns : goal.returns
 returns c =

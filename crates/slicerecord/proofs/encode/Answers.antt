@@ -24,40 +24,40 @@ sized c =
     }
 
 pub put_bytes-requires-2 : goal.put_bytes-requires-2
-put_bytes-requires-2 c = omega (arith, (sized c.before.before.before.before.before.before.before.before.before.before.before.before.before.before.before).modes-1, c.out-2-1.given)
+put_bytes-requires-2 c = omega (arith, (sized c.before.before.before.before.before.before.before.before.before.before.before.before.before.before.before).modes, c.out-2-1.given)
 
 pub put_bytes-requires-3 : goal.put_bytes-requires-3
-put_bytes-requires-3 c = omega (arith, (sized c.before.before.before.before.before.before.before.before.before.before.before.before.before.before.before.before.before.before.before).shifts-1, c.out-4-1.given)
+put_bytes-requires-3 c = omega (arith, (sized c.before.before.before.before.before.before.before.before.before.before.before.before.before.before.before.before.before.before.before).shifts, c.out-4-1.given)
 
 pub put_words-requires : goal.put_words-requires
-put_words-requires c = omega (arith, (sized c.before.before.before.before.before.before.before.before.before.before.before.before.before.before.before.before.before.before.before.before.before.before.before).contents-1, c.out-6-1.given)
+put_words-requires c = omega (arith, (sized c.before.before.before.before.before.before.before.before.before.before.before.before.before.before.before.before.before.before.before.before.before.before.before).contents, c.out-6-1.given)
 
 pub put_bytes-requires-4 : goal.put_bytes-requires-4
-put_bytes-requires-4 c = omega (arith, (sized c.before.before.before.before.before.before.before.before.before.before.before.before.before.before.before.before.before.before.before.before.before.before.before.before.before.before.before).carries-1, c.out-8-1.given)
+put_bytes-requires-4 c = omega (arith, (sized c.before.before.before.before.before.before.before.before.before.before.before.before.before.before.before.before.before.before.before.before.before.before.before.before.before.before.before).carries, c.out-8-1.given)
 
 pub slice_bounds-put_bytes-end-12 : goal.slice_bounds-put_bytes-end-12
-slice_bounds-put_bytes-end-12 c = sym (sized c.before.before.before.before.before.before.before.before.before.before.before.before.before.before.before.before.before.before.before.before.before.before.before.before.before.before.before.before.before.before.before.before.before.before.before).muxes-1
+slice_bounds-put_bytes-end-12 c = sym (sized c.before.before.before.before.before.before.before.before.before.before.before.before.before.before.before.before.before.before.before.before.before.before.before.before.before.before.before.before.before.before.before.before.before.before.before).muxes
 
 pub put_bytes-requires-6 : goal.put_bytes-requires-6
-put_bytes-requires-6 c = omega (arith, (sized c.before.before.before.before.before.before.before.before.before.before.before.before.before.before.before.before.before.before.before.before.before.before.before.before.before.before.before.before.before.before.before.before.before.before.before).muxes-1, c.out-12-1.given)
+put_bytes-requires-6 c = omega (arith, (sized c.before.before.before.before.before.before.before.before.before.before.before.before.before.before.before.before.before.before.before.before.before.before.before.before.before.before.before.before.before.before.before.before.before.before.before).muxes, c.out-12-1.given)
 
 pub slice_bounds-put_bytes-end-14 : goal.slice_bounds-put_bytes-end-14
-slice_bounds-put_bytes-end-14 c = sym (sized c.before.before.before.before.before.before.before.before.before.before.before.before.before.before.before.before.before.before.before.before.before.before.before.before.before.before.before.before.before.before.before.before.before.before.before.before.before.before.before).mains-1
+slice_bounds-put_bytes-end-14 c = sym (sized c.before.before.before.before.before.before.before.before.before.before.before.before.before.before.before.before.before.before.before.before.before.before.before.before.before.before.before.before.before.before.before.before.before.before.before.before.before.before.before).mains
 
 pub put_bytes-requires-7 : goal.put_bytes-requires-7
-put_bytes-requires-7 c = omega (arith, (sized c.before.before.before.before.before.before.before.before.before.before.before.before.before.before.before.before.before.before.before.before.before.before.before.before.before.before.before.before.before.before.before.before.before.before.before.before.before.before.before).mains-1, c.out-14-1.given)
+put_bytes-requires-7 c = omega (arith, (sized c.before.before.before.before.before.before.before.before.before.before.before.before.before.before.before.before.before.before.before.before.before.before.before.before.before.before.before.before.before.before.before.before.before.before.before.before.before.before.before).mains, c.out-14-1.given)
 
 pub slice_bounds-put_bytes-end-16 : goal.slice_bounds-put_bytes-end-16
-slice_bounds-put_bytes-end-16 c = sym (sized c.before.before.before.before.before.before.before.before.before.before.before.before.before.before.before.before.before.before.before.before.before.before.before.before.before.before.before.before.before.before.before.before.before.before.before.before.before.before.before.before.before.before.before).seconds-1
+slice_bounds-put_bytes-end-16 c = sym (sized c.before.before.before.before.before.before.before.before.before.before.before.before.before.before.before.before.before.before.before.before.before.before.before.before.before.before.before.before.before.before.before.before.before.before.before.before.before.before.before.before.before.before.before).seconds
 
 pub put_bytes-requires-8 : goal.put_bytes-requires-8
-put_bytes-requires-8 c = omega (arith, (sized c.before.before.before.before.before.before.before.before.before.before.before.before.before.before.before.before.before.before.before.before.before.before.before.before.before.before.before.before.before.before.before.before.before.before.before.before.before.before.before.before.before.before.before).seconds-1, c.out-16-1.given)
+put_bytes-requires-8 c = omega (arith, (sized c.before.before.before.before.before.before.before.before.before.before.before.before.before.before.before.before.before.before.before.before.before.before.before.before.before.before.before.before.before.before.before.before.before.before.before.before.before.before.before.before.before.before.before).seconds, c.out-16-1.given)
 
 pub slice_bounds-put_codes-end-2 : goal.slice_bounds-put_codes-end-2
-slice_bounds-put_codes-end-2 c = sym (sized c.before.before.before.before.before.before.before.before.before.before.before.before.before.before.before.before.before.before.before.before.before.before.before.before.before.before.before.before.before.before.before.before.before.before.before.before.before.before.before.before.before.before.before.before.before.before.before.before.before.before.before).pins-1
+slice_bounds-put_codes-end-2 c = sym (sized c.before.before.before.before.before.before.before.before.before.before.before.before.before.before.before.before.before.before.before.before.before.before.before.before.before.before.before.before.before.before.before.before.before.before.before.before.before.before.before.before.before.before.before.before.before.before.before.before.before.before.before).pins
 
 pub put_codes-requires : goal.put_codes-requires
-put_codes-requires c = omega (arith, (sized c.before.before.before.before.before.before.before.before.before.before.before.before.before.before.before.before.before.before.before.before.before.before.before.before.before.before.before.before.before.before.before.before.before.before.before.before.before.before.before.before.before.before.before.before.before.before.before.before.before.before.before).pins-1, c.out-20-1.given)
+put_codes-requires c = omega (arith, (sized c.before.before.before.before.before.before.before.before.before.before.before.before.before.before.before.before.before.before.before.before.before.before.before.before.before.before.before.before.before.before.before.before.before.before.before.before.before.before.before.before.before.before.before.before.before.before.before.before.before.before.before).pins, c.out-20-1.given)
 
 pub returns : goal.returns
 returns c =

@@ -16,10 +16,10 @@ loop-i-preserved c =
     let now = c.loop-i in
     let at = c.args in
     let left = drop_next at.words.now now.i (search rules) in
-    (search rules, search rules, numbers_step now.out-1 at.at now.i 8 _ left c.put_number.ensures ∙ now.invariant.2)
+    (search rules, search rules, numbers_step now.out at.at now.i 8 _ left c.put_number.ensures ∙ now.invariant.2)
 
 pub returns : goal.returns
 unfolding all_bytes
 returns c =
     let now = c.loop-i in
-    sets_done now.out-1 _ _ (ap (all_bytes 8) (drop_of_length-le c.args.words.now c.loop-i-test.false)) now.invariant.2
+    sets_done now.out _ _ (ap (all_bytes 8) (drop_of_length-le c.args.words.now c.loop-i-test.false)) now.invariant.2

@@ -20,7 +20,7 @@ within c = own_len c.args.reader c.requires.1
 -- the run ends inside a slice
 inside : (c : Else-last-waits)
     → let a = c.args in
-    StaysInside (take a.reader.len a.store-1.now) a.reader.passed (length a.run.now)
+    StaysInside (take a.reader.len a.store.now) a.reader.passed (length a.run.now)
 inside c = c.stays_inside-waits.ensures (not-false _ (or_right c.args.last (not c.stays_inside-waits.result) c.if-last-waits.false))
 
 fits : (c : Else-last-waits) → let a = c.args in a.reader.len + length a.run.now ≤ file_limit
@@ -48,5 +48,5 @@ returns c =
     let e = c in
     let k = e in
     let a = k.args in
-    takes_inside a.reader a.store-1.now a.run.now k.requires.0 (within k) a.last (omega (arith, fits e)) c.put_bytes.ensures
+    takes_inside a.reader a.store.now a.run.now k.requires.0 (within k) a.last (omega (arith, fits e)) c.put_bytes.ensures
     (or_left a.last (not e.stays_inside-waits.result) e.if-last-waits.false) (inside e)

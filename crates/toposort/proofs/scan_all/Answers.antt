@@ -12,7 +12,7 @@ pub list_flops-requires : goal.list_flops-requires
 list_flops-requires c =
     let b = c in
     let f = b.requires.flop_rows.1 in
-    ((b.requires.table.0.0, f.0.marks-1, f.0.order-1), f.1)
+    ((b.requires.table.0.0, f.0.marks, f.0.order), f.1)
 
 pub loop-p-init : goal.loop-p-init
 loop-p-init c =
@@ -22,7 +22,7 @@ loop-p-init c =
     let k = l.list_flops.auto.1 in
     let e = l.list_flops.ensures in (
       start _ _ _ b.requires.table.1
-          (record { marks = k.0 ∙ f.marks-1; pos = f.pos-1; stack = f.stack-1; heads = f.heads-1; path = f.path-1; order = k.1.0 ∙ f.order-1 })
+          (record { marks = k.0 ∙ f.marks; pos = f.pos; stack = f.stack; heads = f.heads; path = f.path; order = k.1.0 ∙ f.order })
           e (flop_reads _ _ b.requires.flop_rows.0),
       e.first,
       omega arith,
@@ -45,22 +45,22 @@ loop-p-preserved c =
     (m.0, λ q l. m.2.1 q (omega arith) ∙ i.1 q l, omega arith)
 
 pub shape_of-marks : goal.shape_of-marks
-shape_of-marks c = c.loop-p.invariant.0.sized.marks-1 ∙ sym c.requires.flop_rows.1.0.marks-1
+shape_of-marks c = c.loop-p.invariant.0.sized.marks ∙ sym c.requires.flop_rows.1.0.marks
 
 pub shape_of-pos : goal.shape_of-pos
-shape_of-pos c = c.loop-p.invariant.0.sized.pos-1 ∙ sym c.requires.flop_rows.1.0.pos-1
+shape_of-pos c = c.loop-p.invariant.0.sized.pos ∙ sym c.requires.flop_rows.1.0.pos
 
 pub shape_of-stack : goal.shape_of-stack
-shape_of-stack c = c.loop-p.invariant.0.sized.stack-1 ∙ sym c.requires.flop_rows.1.0.stack-1
+shape_of-stack c = c.loop-p.invariant.0.sized.stack ∙ sym c.requires.flop_rows.1.0.stack
 
 pub shape_of-heads : goal.shape_of-heads
-shape_of-heads c = c.loop-p.invariant.0.sized.heads-1 ∙ sym c.requires.flop_rows.1.0.heads-1
+shape_of-heads c = c.loop-p.invariant.0.sized.heads ∙ sym c.requires.flop_rows.1.0.heads
 
 pub shape_of-path : goal.shape_of-path
-shape_of-path c = c.loop-p.invariant.0.sized.path-1 ∙ sym c.requires.flop_rows.1.0.path-1
+shape_of-path c = c.loop-p.invariant.0.sized.path ∙ sym c.requires.flop_rows.1.0.path
 
 pub shape_of-order : goal.shape_of-order
-shape_of-order c = c.loop-p.invariant.0.sized.order-1 ∙ sym c.requires.flop_rows.1.0.order-1
+shape_of-order c = c.loop-p.invariant.0.sized.order ∙ sym c.requires.flop_rows.1.0.order
 
 pub returns : goal.returns
 returns c = let i = c.loop-p.invariant in (all_judged i.0 (omega (arith, i.0.next_le, c.loop-p-test.false)), i.1)

@@ -10,7 +10,7 @@ pub offset_bounds-path-last : goal.offset_bounds-path-last
 offset_bounds-path-last c = let b = c in omega (arith, b.requires.table.0.0, b.requires.components.placed.fits, depth_le b.requires.components)
 
 pub bounds-path-last : goal.bounds-path-last
-bounds-path-last c = let b = c in omega (arith, b.requires.components.sized.path-1, b.requires.components.placed.fits, depth_le b.requires.components)
+bounds-path-last c = let b = c in omega (arith, b.requires.components.sized.path, b.requires.components.placed.fits, depth_le b.requires.components)
 
 pub take_turn-requires : goal.take_turn-requires
 take_turn-requires c =

@@ -36,17 +36,17 @@ wanted c t e = subst (Wanted c) e c.next_turn.ensures
 
 -- the top can be listed
 may-close : (b : Start) → let a = b.args in
-    ((a.top < length a.marks-1.now) × (a.p.done < length a.order-1.now))
+    ((a.top < length a.marks.now) × (a.p.done < length a.order.now))
     × ((a.top < signal_limit) × (a.p.done < signal_limit) × (0 < a.p.depth))
 may-close b =
     let r = top_ready b in
     let h = has_room b in
     let small = b.requires.table.0.0 in
-    ((omega (arith, r), h), (omega arith, omega (arith, b.requires.components.sized.order-1), b.requires.table.2.0))
+    ((omega (arith, r), h), (omega arith, omega (arith, b.requires.components.sized.order), b.requires.table.2.0))
 
 -- its mark can rise
 may-raise : (b : Start) → let a = b.args in
-    (a.top < length a.marks-1.now) × (a.top < signal_limit) × (get_or a.marks-1.now a.top 0 < done_mark)
+    (a.top < length a.marks.now) × (a.top < signal_limit) × (get_or a.marks.now a.top 0 < done_mark)
 may-raise b = let r = top_ready b in (omega (arith, r), omega (arith, r, b.requires.table.0.0), r.top_open.left)
 
 pub next_turn-requires : goal.next_turn-requires

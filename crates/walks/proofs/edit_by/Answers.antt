@@ -29,7 +29,7 @@ pub read_values-requires : goal.read_values-requires
 read_values-requires c =
     let edit = c in
     let b = edit in
-    (b.requires.walkable.0.sized.0, omega (arith, edit.edit_wires.ensures.still.wires-1.size), b.requires.walkable.1)
+    (b.requires.walkable.0.sized.0, omega (arith, edit.edit_wires.ensures.still.wires.size), b.requires.walkable.1)
 
 pub returns : goal.returns
 returns c =

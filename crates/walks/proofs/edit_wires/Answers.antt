@@ -51,7 +51,7 @@ loop-i-preserved c =
     let k = l.requires.0 in
     let t = turn k l.loop-i.i l.loop-i.invariant.0 (search rules) in
     let v = l.loop-i.invariant in
-    let long : signal_count l.args.n ≤ length l.loop-i.marks-1 = omega (arith, k.sized.0, v.2) in
+    let long : signal_count l.args.n ≤ length l.loop-i.marks = omega (arith, k.sized.0, v.2) in
     let r = c.gate_reached.ensures in
     ⊎_elim
     (λ w. (
@@ -77,4 +77,4 @@ pub returns : goal.returns
 returns c =
     let l = c in
     let b = l in
-    record { still = l.loop-i.invariant.3; done = edit_end b.requires.0 _ _ _ _ l.loop-i.marks-1 l.loop-i.invariant.3 b.requires.1 l.loop-i.i (search rules) l.loop-i.invariant.4 }
+    record { still = l.loop-i.invariant.3; done = edit_end b.requires.0 _ _ _ _ l.loop-i.marks l.loop-i.invariant.3 b.requires.1 l.loop-i.i (search rules) l.loop-i.invariant.4 }

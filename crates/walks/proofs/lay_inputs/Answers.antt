@@ -7,7 +7,7 @@ use Rattle.walks.proofs.Laying.{laid_inputs}
 use Rattle.walks.proofs.lay_inputs.Goals as goal
 
 pub bounds-wires-1 : goal.bounds-wires-1
-bounds-wires-1 c = let a = c.args in omega (arith, length-set a.wires-1.now 0 0)
+bounds-wires-1 c = let a = c.args in omega (arith, length-set a.wires.now 0 0)
 
 pub copy_to-requires : goal.copy_to-requires
 copy_to-requires c =

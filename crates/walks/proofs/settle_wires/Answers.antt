@@ -29,7 +29,7 @@ gate_value-value-requires c =
     let l = c in
     let k = l.requires.0 in
     let t = turn k l.loop-i.i l.loop-i.invariant.0 (search rules) in
-    let w = l.loop-i.invariant.2.wires-1 in
+    let w = l.loop-i.invariant.2.wires in
     ((k.sized, t.1, t.2), (turn_wires k w _ t.1, w.bits))
 
 pub overflow_add-wires : goal.overflow_add-wires
@@ -38,7 +38,7 @@ overflow_add-wires c = let l = c in omega (arith, turn l.requires.0 l.loop-i.i l
 pub bounds-wires-x : goal.bounds-wires-x
 bounds-wires-x c =
     let l = c in
-    omega (arith, turn l.requires.0 l.loop-i.i l.loop-i.invariant.0 (search rules), l.loop-i.invariant.2.wires-1.size)
+    omega (arith, turn l.requires.0 l.loop-i.i l.loop-i.invariant.0 (search rules), l.loop-i.invariant.2.wires.size)
 
 pub loop-i-preserved : goal.loop-i-preserved
 loop-i-preserved c =
@@ -49,7 +49,7 @@ loop-i-preserved c =
     (search rules, search rules, set_still k _ _ v.2 l.loop-i.i t.0 _ c.gate_value-value.ensures, settle_turn k _ _ v.2 l.loop-i.i t.0 _ c.gate_value-value.ensures _ v.3)
 
 pub shape_of-wires : goal.shape_of-wires
-shape_of-wires c = c.loop-i.invariant.2.wires-1.size ∙ sym c.requires.2.size
+shape_of-wires c = c.loop-i.invariant.2.wires.size ∙ sym c.requires.2.size
 
 pub returns : goal.returns
 returns c =
@@ -58,6 +58,6 @@ returns c =
     let on = l.spread_flops.ensures in
     let v = l.loop-i.invariant in
     record {
-      still = record { wires = v.2.wires-1; inputs = v.2.inputs ∙ on.still.inputs };
+      still = record { wires = v.2.wires; inputs = v.2.inputs ∙ on.still.inputs };
       settled = rw on.still.inputs at (settle_end k _ _ v.2 _ l.loop-i.i (search rules) v.3);
     }

@@ -10,7 +10,7 @@ pub loop-s-init : goal.loop-s-init
 loop-s-init c = (search rules, flops_none _ c.requires.2)
 
 pub spread_byte-requires : goal.spread_byte-requires
-spread_byte-requires c = let w = c.loop-s.invariant.1.still.wires-1 in omega (arith, w.size)
+spread_byte-requires c = let w = c.loop-s.invariant.1.still.wires in omega (arith, w.size)
 
 pub loop-s-preserved : goal.loop-s-preserved
 loop-s-preserved c =
@@ -18,7 +18,7 @@ loop-s-preserved c =
     (search rules, flops_next _ l.s (search rules) l.invariant.1 c.spread_byte.ensures)
 
 pub shape_of-wires : goal.shape_of-wires
-shape_of-wires c = c.loop-s.invariant.1.still.wires-1.size ∙ sym c.requires.2.size
+shape_of-wires c = c.loop-s.invariant.1.still.wires.size ∙ sym c.requires.2.size
 
 pub returns : goal.returns
 returns c =
