@@ -8,7 +8,7 @@ use Rattle.column.specs.Judge.{Judged}
 use Rattle.column.specs.declared.Verdict.{Verdict}
 use Rattle.column.specs.declared.Verdict.TheVariants.{Refused as VerdictRefused, Accepted}
 use Rattle.plan.specs.Plan.{Loaded}
-use Rattle.calls.specs.Calls.{Called, judged, refused, done, Planned, plan_refused, plan_done, refusal_of}
+use Rattle.calls.specs.Calls.{Called, judged, refused, done, Planned, turned_down, carried_out, refusal_of}
 
 module _ (file : List ℕ) (own : ℕ → ℕ → ℕ) {Kept : Type 0} {Did : ℕ → ℕ → Type 0} where
   -- the judge's refusal, handed on
@@ -24,13 +24,13 @@ module _ (file : List ℕ) (own : ℕ → ℕ → ℕ) {Kept : Type 0} {Did : �
   pub planned_called :
       {n m : ℕ} {by : ℕ} {Made : Type 0} {r : Answer} → Judged file (Accepted n m) → by ≡ own n m → (Made → Did n m) → Planned by Kept Made r
       → Called file own Kept Did r
-  planned_called j same f (plan_refused e kept) = refused j (sym same ∙ e) kept
-  planned_called j same f (plan_done e made) = done j (sym same ∙ e) (f made)
+  planned_called j same f (turned_down e kept) = refused j (sym same ∙ e) kept
+  planned_called j same f (carried_out e made) = done j (sym same ∙ e) (f made)
 
 -- the own refusal of a call on a plan, by its number
-pub plan_refused_by : {own : ℕ} {Kept Did : Type 0} (k : ℕ) → k ≡ own → (k ≡ 0 → ⊥) → Kept → Planned own Kept Did (Refused k 0)
-plan_refused_by zero e ne kept = absurd (ne refl)
-plan_refused_by (suc k) e ne kept = plan_refused (sym e) kept
+pub turned_by : {own : ℕ} {Kept Did : Type 0} (k : ℕ) → k ≡ own → (k ≡ 0 → ⊥) → Kept → Planned own Kept Did (Refused k 0)
+turned_by zero e ne kept = absurd (ne refl)
+turned_by (suc k) e ne kept = turned_down (sym e) kept
 
 -- the judge's verdict on a file that is loaded or refused
 pub loaded_judged : (file plan : List ℕ) (v : Verdict) → Loaded file plan v → Judged file v

@@ -19,8 +19,8 @@ pub data Called (file : List ℕ) (own : ℕ → ℕ → ℕ) (Kept : Type 0) (D
 
 -- a call on the plan of a judged file: its own refusal, or what was done
 pub data Planned (own : ℕ) (Kept Did : Type 0) : Answer → Type 0 where
-  plan_refused : {k : ℕ} → own ≡ suc k → Kept → Planned own Kept Did (AnswerRefused (suc k) 0)
-  plan_done : own ≡ 0 → Did → Planned own Kept Did Done
+  turned_down : {k : ℕ} → own ≡ suc k → Kept → Planned own Kept Did (AnswerRefused (suc k) 0)
+  carried_out : own ≡ 0 → Did → Planned own Kept Did Done
 
 -- the judge's refusal as the answer of a call
 abbrev pub refusal_of : Verdict → Answer

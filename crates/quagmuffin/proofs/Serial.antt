@@ -16,14 +16,14 @@ use Rattle.stream.specs.declared.Reply.{Reply}
 use Rattle.stream.specs.declared.Reply.TheVariants.{More, Given}
 use Rattle.stream.specs.declared.Reader.{Reader}
 use Rattle.stream.specs.declared.Fed.{Fed}
-use Rattle.stream.specs.Feeding.{reader, out_of_range, Keeps, Feeds}
-use Rattle.stream.specs.Sessions.{Owed, Call, Session, no_calls as none, call as one, joined, first_verdict, Follows, no_call}
-use Rattle.stream.proofs.Calls.{wrong_told, again_told, out_of_range_told}
+use Rattle.stream.specs.Feeding.{reader, foreign, Keeps, Feeds}
+use Rattle.stream.specs.Sessions.{Owed, Call, Session, silence as none, call as one, joined, first_verdict, Follows, no_call}
+use Rattle.stream.proofs.Calls.{wrong_told, again_told, strange_told}
 use Rattle.stream.proofs.AnyState.{accepted_kept}
 use Rattle.stream.proofs.Determined.{feeds_unique}
 use Rattle.stream.proofs.Serial.{session, session_owed}
 use Rattle.quagmuffin.specs.Packed.{pack_verdict, SmallVerdict}
-use Rattle.quagmuffin.specs.Serial.{state_length, pack_reply, unpack_reply, reader_of, words_of, is_last, FedWords, WordsBy, FeedsWords, Serial, no_calls, call, fresh_words, SmallReply}
+use Rattle.quagmuffin.specs.Serial.{state_length, pack_reply, unpack_reply, reader_of, words_of, is_last, FedWords, WordsBy, FeedsWords, Serial, silence, call, fresh_words, SmallReply}
 use Rattle.quagmuffin.proofs.Exported.{verdict_back}
 use Rattle.quagmuffin.proofs.Words.{told_more, told_verdict, reply_again, words_again, feeds_all}
 
@@ -83,8 +83,8 @@ module _ {state store run : List ℕ} {last answer : ℕ} {words after : List �
           (k.0 ∙ ap pack_reply (sym (told_verdict (get_or state 2 0) ne)) ∙ reply_again (get_or state 2 0), k.1, k.2)
 
       -- a state that no call leaves
-      pub state_out_of_range : get_or state 2 0 ≡ 0 → out_of_range (reader_of state) ≡ true → Stays 11
-      state_out_of_range z e = stays (out_of_range_told full (told_more (get_or state 2 0) z) e w.feeds)
+      pub state_strange : get_or state 2 0 ≡ 0 → foreign (reader_of state) ≡ true → Stays 11
+      state_strange z e = stays (strange_told full (told_more (get_or state 2 0) z) e w.feeds)
 
     -- whatever the state: what is accepted the judge accepts, and it is the front of the store, of so many bytes as the first word says
     pub accepted_front : {n m : ℕ} → get_or state 2 0 ≡ 0 → unpack_reply answer ≡ Given (Accepted n m)
@@ -95,7 +95,7 @@ module _ {state store run : List ℕ} {last answer : ℕ} {words after : List �
 
 -- ---- call after call
 pub serial_session : {state store : List ℕ} {calls : List Call} {replies : List Reply} → length state ≡ state_length → Serial state store calls replies → Session (reader_of state) store calls replies
-serial_session e no_calls = none
+serial_session e silence = none
 serial_session {state} {store} e (call {words = words} {after = after} {c = c} {last = last} {answer = answer} {calls = calls} {replies = replies} l f rest) =
     let w : FedWords state store c.run last answer words after = words_told e f in
     let feeds : Feeds (reader_of state) store c.run c.last w.fed after = subst (λ (b : Bool). Feeds (reader_of state) store c.run b w.fed after) l w.feeds in
@@ -120,7 +120,7 @@ small_told {state} {store} {run} {last} {after = after} w s = feeds_all SmallRep
 
 small_from : {state store : List ℕ} {calls : List Call} {replies : List Reply} → length state ≡ state_length → SmallReply (reader_of state).said → Serial state store calls replies
     → (k : ℕ) → SmallReply (get_or replies k More)
-small_from e s no_calls k = tt
+small_from e s silence k = tt
 small_from e s (call l f rest) zero =
     let w = words_told e f in
     subst SmallReply (sym (answer_told w)) (small_told w s).0

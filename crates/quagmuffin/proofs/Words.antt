@@ -19,8 +19,8 @@ use Rattle.stream.specs.declared.Reply.{Reply}
 use Rattle.stream.specs.declared.Reply.TheVariants.{More, Given}
 use Rattle.stream.specs.declared.Reader.{Reader}
 use Rattle.stream.specs.declared.Fed.{Fed}
-use Rattle.stream.specs.Feeding.{out_of_range, NextState, judged, certain, waits, Keeps, FeedsBy, Feeds}
-use Rattle.stream.proofs.NextStates.{given_early}
+use Rattle.stream.specs.Feeding.{foreign, Hears, judged, certain, waits, Keeps, FeedsBy, Feeds}
+use Rattle.stream.proofs.Hearing.{given_early}
 use Rattle.stream.proofs.Taking.{own_passed}
 use Rattle.quagmuffin.specs.Packed.{pack_verdict, unpack_verdict, Fits, SmallVerdict}
 use Rattle.quagmuffin.specs.Serial.{state_length, pack_reply, unpack_reply, FitsReply, reader_of, words_of, FedWords, WordsBy, FeedsWords}
@@ -92,13 +92,13 @@ words_again state e = ap (λ (w : ℕ). get_or state 0 0 ∷ get_or state 1 0 �
 
 -- ---- what holds of the verdicts of a small number and place, and of what was said before, holds of what a call says and hands on
 module _ (P : Reply → Type 0) (small : (v : Verdict) → SmallVerdict v → P (Given v)) (waiting : P More) where
-  next_all : (bytes : List ℕ) {len passed : ℕ} {b : Bool} {next : Reader} → passed ≤ slice_limit → NextState bytes len passed b next → P next.said
-  next_all bytes own (judged {v} j) = small v (judged_small bytes j)
-  next_all bytes {passed = passed} own (certain e) =
+  hears_all : (bytes : List ℕ) {len passed : ℕ} {b : Bool} {next : Reader} → passed ≤ slice_limit → Hears bytes len passed b next → P next.said
+  hears_all bytes own (judged {v} j) = small v (judged_small bytes j)
+  hears_all bytes {passed = passed} own (certain e) =
       let g = given_early (check_from passed bytes) e in
       let s : SmallChecked (Bad g.0 g.1) = subst SmallChecked g.2 (from_small bytes passed own) in
       subst (λ (v : Verdict). P (Given v)) g.4 (small (Refused g.0 g.1) (s.0, omega (arith, s.1), s.2))
-  next_all bytes own (waits e) = waiting
+  hears_all bytes own (waits e) = waiting
 
   module _ (r : Reader) (store run : List ℕ) (last : Bool) (fed : Fed) (after : List ℕ) (before : P r.said) where
     abbrev Both : Type 0
@@ -110,14 +110,14 @@ module _ (P : Reply → Type 0) (small : (v : Verdict) → SmallVerdict v → P 
     refused : (k : ℕ) → 1 ≤ k → k ≤ 11 → P (Given (Refused k 0))
     refused k l h = small (Refused k 0) (l, h, omega arith)
 
-    by_row : (sized : Bool) (said : Reply) (out : Bool) → r.said ≡ said → out_of_range r ≡ out → FeedsBy sized said out r store run last fed after → Both
+    by_row : (sized : Bool) (said : Reply) (out : Bool) → r.said ≡ said → foreign r ≡ out → FeedsBy sized said out r store run last fed after → Both
     by_row false said out e f k = keeps_all (refused 10 (omega arith) (omega arith)) k
     by_row true (Given v) out e f k = keeps_all (subst P e before) k
     by_row true More true e f k = keeps_all (refused 11 (omega arith) (omega arith)) k
-    by_row true More false e f k = let h = next_all _ (own_passed r f) k.takes.state in (subst P (sym k.says) h, h)
+    by_row true More false e f k = let h = hears_all _ (own_passed r f) k.takes.state in (subst P (sym k.says) h, h)
 
     pub feeds_all : Feeds r store run last fed after → Both
-    feeds_all f = by_row (eqb (length store) file_limit) r.said (out_of_range r) refl refl f.by
+    feeds_all f = by_row (eqb (length store) file_limit) r.said (foreign r) refl refl f.by
 
 -- ---- the two ways the exported call goes
 module _ {state store run : List ℕ} {last : ℕ} where

@@ -55,7 +55,7 @@ pub record FeedsWords (state store run : List ℕ) (last answer : ℕ) (words af
 
 -- calls one after another, each given the words and the store that the last one left, and what their answers say
 pub data Serial : List ℕ → List ℕ → List Call → List Reply → Type 0 where
-  no_calls : {state store : List ℕ} → Serial state store [] []
+  silence : {state store : List ℕ} → Serial state store [] []
   call : {state store words after : List ℕ} {c : Call} {last answer : ℕ} {calls : List Call} {replies : List Reply} → is_last last ≡ c.last
       → FeedsWords state store c.run last answer words after → Serial words after calls replies → Serial state store (c ∷ calls) (unpack_reply answer ∷ replies)
 

@@ -18,7 +18,7 @@ use Rattle.plan.specs.Plan.{Ready, clocked_by}
 use Rattle.plan.proofs.Plans.{ready_sound, clocked_same}
 use Rattle.buffers.proofs.Modes.{settle_same}
 use Rattle.buffers.proofs.Passed.{settle_passed}
-use Rattle.calls.specs.Calls.{Planned, plan_refused, plan_done}
+use Rattle.calls.specs.Calls.{Planned, turned_down, carried_out}
 use Rattle.calls.proofs.Calls.{planned_called}
 use Rattle.simulator.specs.Running.{SettleCalled, ClockCalled, SettledPlan, SettlePlanned, ClockPlanned, plan_refusal}
 
@@ -51,7 +51,7 @@ module _ (file : List ℕ) {n m : ℕ} {plan : List ℕ} (r : Ready file n m pla
         as_file : {a : Answer}
             → ClockPlanned plan n m st moved inputs old new a
             → Planned (plan_refusal plan n m st inputs old) ((moved ≡ st) × (new ≡ old)) ((moved ≡ clocked file st inputs new) × SettledFor file st inputs new) a
-        as_file (plan_refused e kept) = plan_refused e kept
-        as_file (plan_done e d) =
+        as_file (turned_down e kept) = turned_down e kept
+        as_file (carried_out e d) =
             let p = settle_passed _ st inputs old n m e in
-            plan_done e (d.0 ∙ moved_file new p.0.inputs p.1 d.1, settled_file d.1)
+            carried_out e (d.0 ∙ moved_file new p.0.inputs p.1 d.1, settled_file d.1)

@@ -17,17 +17,9 @@ pub open_is_one : (n m : ℕ) (body : List ℕ) (p : ℕ) → pin_code body p �
 unfolding pin_source
 open_is_one n m body p e = ap decoded_source (ap (λ (code : ℕ). driver_of code n m) e ∙ two_open n m)
 
--- among the sources of a gate it is no signal
-no_signal : (before behind : List Source) → signals_in (before ++ Constant true ∷ behind) ≡ signals_in (before ++ behind)
-unfolding signals_in
-no_signal [] behind = refl
-no_signal (Constant c ∷ before) behind = no_signal before behind
-no_signal (Input j ∷ before) behind = no_signal before behind
-no_signal (Signal y ∷ before) behind = ap (y ∷◌) (no_signal before behind)
-
 one_pulled_up : PulledUp (Constant true)
-unfolding value_of
-one_pulled_up = record { one = λ inputs values. refl; no_signal = no_signal; no_input = λ j. refl }
+unfolding value_of signals_in
+one_pulled_up = record { one = λ inputs values. refl; no_signal = λ others. refl; no_input = λ j. refl }
 
 pub open_pulled_up : (n m : ℕ) (body : List ℕ) (p : ℕ) → pin_code body p ≡ 2 → PulledUp (pin_source n m body p)
 open_pulled_up n m body p e = subst⁻¹ PulledUp (open_is_one n m body p e) one_pulled_up

@@ -48,11 +48,11 @@ pin_numbers n m body = tabulate 0 pin_count (λ p. code_of n (pin_source n m bod
 abbrev pub HasPins : ℕ → ℕ → ℕ → List ℕ → List ℕ → Type 0
 HasPins n m s body pins = HoldsSlice body × (n ≤ column_limit) × (s < n) × (pins ≡ pin_numbers n m body)
 
--- "it reads as 1 and nothing depends on anything through it": the bit is 1 over any inputs and values, and wherever it stands among the sources
--- of a gate, it is no signal and no outside input
+-- "it reads as 1 and nothing depends on anything through it": the bit is 1 over any inputs and values, and among the sources of a gate it is
+-- no signal and no outside input
 pub record PulledUp (s : Source) : Type 0 where
   pub one : (inputs values : List ℕ) → value_of inputs values s ≡ 1
-  pub no_signal : (before behind : List Source) → signals_in (before ++ s ∷ behind) ≡ signals_in (before ++ behind)
+  pub no_signal : (others : List Source) → signals_in (s ∷ others) ≡ signals_in others
   pub no_input : (j : ℕ) → is_input j s ≡ false
 
 -- the signals of a letter beside its O6, which is signal l: O5, carry, sum, second flip-flop

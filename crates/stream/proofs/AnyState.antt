@@ -18,47 +18,47 @@ use Rattle.stream.specs.declared.Reply.{Reply}
 use Rattle.stream.specs.declared.Reply.TheVariants.{More, Given}
 use Rattle.stream.specs.declared.Reader.{Reader}
 use Rattle.stream.specs.declared.Fed.{Fed}
-use Rattle.stream.specs.Feeding.{out_of_range, seen, NextState, judged, certain, waits, Keeps, FeedsBy, Feeds}
-use Rattle.stream.proofs.NextStates.{more_or_given, same_verdict, given_early}
+use Rattle.stream.specs.Feeding.{foreign, seen, Hears, judged, certain, waits, Keeps, FeedsBy, Feeds}
+use Rattle.stream.proofs.Hearing.{more_or_given, same_verdict, given_early}
 use Rattle.stream.proofs.Taking.{own_len, front_seen}
 use Rattle.stream.proofs.Calls.{run_told}
 
 -- ---- the sender's last word
-all_judged : {bytes : List ℕ} {len passed : ℕ} {b : Bool} {next : Reader} → b ≡ true → NextState bytes len passed b next → (v : Verdict) × Judged bytes v × (next.said ≡ Given v)
+all_judged : {bytes : List ℕ} {len passed : ℕ} {b : Bool} {next : Reader} → b ≡ true → Hears bytes len passed b next → (v : Verdict) × Judged bytes v × (next.said ≡ Given v)
 all_judged e (judged {v} j) = (v, j, refl)
 all_judged e (certain g) = absurd (true≢false (sym e))
 all_judged e (waits g) = absurd (true≢false (sym e))
 
-pub last_judged : {r : Reader} {store run : List ℕ} {fed : Fed} {after : List ℕ} → length store ≡ file_limit → r.said ≡ More → out_of_range r ≡ false → Feeds r store run true fed after
+pub last_judged : {r : Reader} {store run : List ℕ} {fed : Fed} {after : List ℕ} → length store ≡ file_limit → r.said ≡ More → foreign r ≡ false → Feeds r store run true fed after
     → (v : Verdict) × Judged (seen r store run) v × (fed.reply ≡ Given v)
 last_judged full waiting own f =
     let t = run_told full waiting own f in
-    let h = all_judged refl t.takes.state in
+    let h = all_judged refl t.takes.hears in
     (h.0, h.1, t.says ∙ h.2)
 
 -- ---- accepted
-next_len : {bytes : List ℕ} {len passed : ℕ} {b : Bool} {next : Reader} → NextState bytes len passed b next → next.len ≡ len
-next_len (judged j) = refl
-next_len (certain e) = refl
-next_len (waits e) = refl
+hears_len : {bytes : List ℕ} {len passed : ℕ} {b : Bool} {next : Reader} → Hears bytes len passed b next → next.len ≡ len
+hears_len (judged j) = refl
+hears_len (certain e) = refl
+hears_len (waits e) = refl
 
-next_accepted : {bytes : List ℕ} {len passed n m : ℕ} {b : Bool} {next : Reader} → next.said ≡ Given (Accepted n m) → NextState bytes len passed b next → Judged bytes (Accepted n m)
-next_accepted {bytes} e (judged j) = subst (Judged bytes) (same_verdict e) j
-next_accepted {bytes} {passed = passed} e (certain g) = let k = given_early (check_from passed bytes) (g ∙ e) in absurd (not_both _ refl k.4)
-next_accepted e (waits g) = absurd (more_or_given More refl e)
+hears_accepted : {bytes : List ℕ} {len passed n m : ℕ} {b : Bool} {next : Reader} → next.said ≡ Given (Accepted n m) → Hears bytes len passed b next → Judged bytes (Accepted n m)
+hears_accepted {bytes} e (judged j) = subst (Judged bytes) (same_verdict e) j
+hears_accepted {bytes} {passed = passed} e (certain g) = let k = given_early (check_from passed bytes) (g ∙ e) in absurd (not_both _ refl k.4)
+hears_accepted e (waits g) = absurd (more_or_given More refl e)
 
 module _ (r : Reader) (store run : List ℕ) (last : Bool) (fed : Fed) (after : List ℕ) {n m : ℕ} (accepts : fed.reply ≡ Given (Accepted n m)) where
   not_kept : {k : ℕ} → Keeps (Given (Refused k 0)) r store fed after → ⊥
   not_kept k = not_both _ refl (same_verdict (sym k.says ∙ accepts))
 
-  by_row : (sized : Bool) (said : Reply) (out : Bool) → eqb (length store) file_limit ≡ sized → out_of_range r ≡ out → said ≡ More → FeedsBy sized said out r store run last fed after
+  by_row : (sized : Bool) (said : Reply) (out : Bool) → eqb (length store) file_limit ≡ sized → foreign r ≡ out → said ≡ More → FeedsBy sized said out r store run last fed after
       → Judged (seen r store run) (Accepted n m) × (take fed.reader.len after ≡ seen r store run)
   by_row false said out e g o k = absurd (not_kept k)
   by_row true (Given v) out e g o k = absurd (more_or_given (Given v) o refl)
   by_row true More true e g o k = absurd (not_kept k)
   by_row true More false e g o k =
-      let j = next_accepted (sym k.says ∙ accepts) k.takes.state in
-      (j, front_seen r store run (eqb-true (length store) file_limit e) (own_len r g) (sound_short (seen r store run) (accepted_sound (seen r store run) j)) (next_len k.takes.state) k.takes.stored)
+      let j = hears_accepted (sym k.says ∙ accepts) k.takes.hears in
+      (j, front_seen r store run (eqb-true (length store) file_limit e) (own_len r g) (sound_short (seen r store run) (accepted_sound (seen r store run) j)) (hears_len k.takes.hears) k.takes.stored)
 
   pub accepted_kept : r.said ≡ More → Feeds r store run last fed after → Judged (seen r store run) (Accepted n m) × (take fed.reader.len after ≡ seen r store run)
-  accepted_kept o f = by_row (eqb (length store) file_limit) r.said (out_of_range r) refl refl o f.by
+  accepted_kept o f = by_row (eqb (length store) file_limit) r.said (foreign r) refl refl o f.by

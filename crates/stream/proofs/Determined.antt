@@ -12,9 +12,9 @@ use Rattle.stream.specs.declared.Reply.{Reply}
 use Rattle.stream.specs.declared.Reply.TheVariants.{More, Given}
 use Rattle.stream.specs.declared.Reader.{Reader}
 use Rattle.stream.specs.declared.Fed.{Fed}
-use Rattle.stream.specs.Feeding.{reader, out_of_range, seen, NextState, judged, certain, waits, Keeps, FeedsBy, Feeds}
+use Rattle.stream.specs.Feeding.{reader, foreign, seen, Hears, judged, certain, waits, Keeps, FeedsBy, Feeds}
 use Rattle.stream.specs.Sessions.{Owed, ended, certain as owed-certain, more}
-use Rattle.stream.proofs.NextStates.{more_or_given, same_verdict}
+use Rattle.stream.proofs.Hearing.{more_or_given, same_verdict}
 
 -- what is owed is one reply
 pub owed_unique : (bytes : List ℕ) {last : Bool} {a b : Reply} → Owed bytes last a → Owed bytes last b → a ≡ b
@@ -25,12 +25,12 @@ owed_unique bytes (more never) (owed-certain d i) = absurd (never d)
 owed_unique bytes (more never) (more nor) = refl
 
 -- ---- a call
-next_unique : (bytes : List ℕ) {len passed : ℕ} {b : Bool} {x y : Reader} → NextState bytes len passed b x → NextState bytes len passed b y → x ≡ y
-next_unique bytes {len} {passed} (judged j) (judged i) = ap (λ (v : Verdict). reader len passed (Given v)) (judged_unique bytes j i)
-next_unique bytes {len} {passed} (certain e) (certain f) = ap (λ (v : Verdict). reader len passed (Given v)) (same_verdict (sym e ∙ f))
-next_unique bytes (certain e) (waits f) = absurd (more_or_given _ f e)
-next_unique bytes (waits e) (certain f) = absurd (more_or_given _ e f)
-next_unique bytes (waits e) (waits f) = refl
+hears_unique : (bytes : List ℕ) {len passed : ℕ} {b : Bool} {x y : Reader} → Hears bytes len passed b x → Hears bytes len passed b y → x ≡ y
+hears_unique bytes {len} {passed} (judged j) (judged i) = ap (λ (v : Verdict). reader len passed (Given v)) (judged_unique bytes j i)
+hears_unique bytes {len} {passed} (certain e) (certain f) = ap (λ (v : Verdict). reader len passed (Given v)) (same_verdict (sym e ∙ f))
+hears_unique bytes (certain e) (waits f) = absurd (more_or_given _ f e)
+hears_unique bytes (waits e) (certain f) = absurd (more_or_given _ e f)
+hears_unique bytes (waits e) (waits f) = refl
 
 module _ (r : Reader) (store run : List ℕ) (last : Bool) where
   same_fed : {fed fed' : Fed} → fed.reply ≡ fed'.reply → fed.reader ≡ fed'.reader → fed ≡ fed'
@@ -45,8 +45,8 @@ module _ (r : Reader) (store run : List ℕ) (last : Bool) where
   by_row true (Given v) out fed fed' after after' k l = kept_once k l
   by_row true More true fed fed' after after' k l = kept_once k l
   by_row true More false fed fed' after after' k l =
-      let same = next_unique (seen r store run) k.takes.state l.takes.state in
+      let same = hears_unique (seen r store run) k.takes.hears l.takes.hears in
       (same_fed (k.says ∙ ap (λ (x : Reader). x.said) same ∙ sym l.says) same, k.takes.stored ∙ sym l.takes.stored)
 
   pub feeds_unique : {fed fed' : Fed} {after after' : List ℕ} → Feeds r store run last fed after → Feeds r store run last fed' after' → (fed ≡ fed') × (after ≡ after')
-  feeds_unique k l = by_row (eqb (length store) file_limit) r.said (out_of_range r) _ _ _ _ k.by l.by
+  feeds_unique k l = by_row (eqb (length store) file_limit) r.said (foreign r) _ _ _ _ k.by l.by

@@ -1,4 +1,4 @@
-pub mod NextStates
+pub mod Hearing
 pub mod Taking
 pub mod Calls
 pub mod Certainty

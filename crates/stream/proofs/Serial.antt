@@ -20,9 +20,9 @@ use Rattle.stream.specs.declared.Reply.{Reply}
 use Rattle.stream.specs.declared.Reply.TheVariants.{More, Given}
 use Rattle.stream.specs.declared.Reader.{Reader}
 use Rattle.stream.specs.declared.Fed.{Fed}
-use Rattle.stream.specs.Feeding.{fresh, out_of_range, early, seen, fitting, final, NextState, judged, certain as tested, waits, Feeds}
-use Rattle.stream.specs.Sessions.{Certain, Owed, ended, certain, more, Holds, Closed, Leaves, Call, Session, no_calls, call, joined, first_verdict, Follows, no_call}
-use Rattle.stream.proofs.NextStates.{more_or_given, same_verdict, early_other, given_early}
+use Rattle.stream.specs.Feeding.{fresh, foreign, early, seen, fitting, final, Hears, judged, certain as tested, waits, Feeds}
+use Rattle.stream.specs.Sessions.{Certain, Owed, ended, certain, more, Holds, Closed, Leaves, Call, Session, silence, call, joined, first_verdict, Follows, no_call}
+use Rattle.stream.proofs.Hearing.{more_or_given, same_verdict, early_other, given_early}
 use Rattle.stream.proofs.Taking.{front_seen}
 use Rattle.stream.proofs.Calls.{again_told, run_told}
 use Rattle.stream.proofs.Certainty.{tests_certain, certain_tested, long_certain, certain_stays, verdict_stays}
@@ -50,11 +50,11 @@ module _ (bytes : List ℕ) where
   not_yet true e = absurd (true≢false (sym e))
   not_yet false e = (refl, ltb-false file_limit (length bytes) (sym e))
 
-  next_owed : {len passed : ℕ} {b last : Bool} {next : Reader} → Passed bytes passed → b ≡ final last bytes → NextState bytes len passed b next → Owed bytes last next.said
-  next_owed {last = last} p e (judged j) = finally last e j
-  next_owed {last = last} p e (tested {v} g) =
+  heard_owed : {len passed : ℕ} {b last : Bool} {next : Reader} → Passed bytes passed → b ≡ final last bytes → Hears bytes len passed b next → Owed bytes last next.said
+  heard_owed {last = last} p e (judged j) = finally last e j
+  heard_owed {last = last} p e (tested {v} g) =
       subst (λ (l : Bool). Owed bytes l (Given v)) (sym (not_yet last e).0) (early_certain (ap early (sym (passed_check bytes p)) ∙ g))
-  next_owed {last = last} p e (waits g) =
+  heard_owed {last = last} p e (waits g) =
       subst (λ (l : Bool). Owed bytes l More) (sym (not_yet last e).0) (early_waits (ap early (sym (passed_check bytes p)) ∙ g))
 
 -- ---- one call
@@ -62,7 +62,7 @@ module _ {r : Reader} {store bytes : List ℕ} (h : Holds r store bytes) where
   within : r.len ≤ file_limit
   within = omega (arith, h.count, ap length h.kept, length-take r.len store, h.room)
 
-  own : out_of_range r ≡ false
+  own : foreign r ≡ false
   own = rw (le-ltb file_limit r.len within, le-ltb slice_limit r.passed (passed_fit bytes h.passed))
 
   module _ {run : List ℕ} {last : Bool} {fed : Fed} {after : List ℕ} (f : Feeds r store run last fed after) where
@@ -72,12 +72,12 @@ module _ {r : Reader} {store bytes : List ℕ} (h : Holds r store bytes) where
     same : seen r store run ≡ all
     same = ap (λ (b : List ℕ). b ++ run) h.kept
 
-    moved : NextState all (r.len + length (fitting r run)) r.passed (final last all) fed.reader
-    moved = subst (λ (b : List ℕ). NextState b (r.len + length (fitting r run)) r.passed (final last b) fed.reader) same (run_told h.room h.waits own f).takes.state
+    moved : Hears all (r.len + length (fitting r run)) r.passed (final last all) fed.reader
+    moved = subst (λ (b : List ℕ). Hears b (r.len + length (fitting r run)) r.passed (final last b) fed.reader) same (run_told h.room h.waits own f).takes.hears
 
     -- a reader that holds bytes says what is owed on them and the run
     pub call_owed : Owed all last fed.reply
-    call_owed = subst (Owed all last) (sym (run_told h.room h.waits own f).says) (next_owed all (passed_stay bytes run h.passed) refl moved)
+    call_owed = subst (Owed all last) (sym (run_told h.room h.waits own f).says) (heard_owed all (passed_stay bytes run h.passed) refl moved)
 
     stored : length after ≡ file_limit
     stored = ap length (run_told h.room h.waits own f).takes.stored ∙ length-sets store r.len (fitting r run) ∙ h.room
@@ -88,7 +88,7 @@ module _ {r : Reader} {store bytes : List ℕ} (h : Holds r store bytes) where
         let kept = front_seen r store run h.room within (rw same short) len (run_told h.room h.waits own f).takes.stored ∙ same in
         record { room = stored; waits = said; count = omega (arith, len, ap length kept, length-take fed.reader.len after, stored, length-take (file_limit - r.len) run, within); kept = kept; passed = p }
 
-    left_by : {b : Bool} {next : Reader} → b ≡ final last all → fed.reader ≡ next → NextState all (r.len + length (fitting r run)) r.passed b next → Leaves next.said fed.reader after all
+    left_by : {b : Bool} {next : Reader} → b ≡ final last all → fed.reader ≡ next → Hears all (r.len + length (fitting r run)) r.passed b next → Leaves next.said fed.reader after all
     left_by e n (judged j) = record { room = stored; verdict = ap (λ (x : Reader). x.said) n }
     left_by e n (tested g) = record { room = stored; verdict = ap (λ (x : Reader). x.said) n }
     left_by e n (waits g) =
@@ -112,7 +112,7 @@ fresh_holds store full = record { room = full; waits = refl; count = refl; kept 
 
 closed_after : {v : Verdict} {r : Reader} {store : List ℕ} {calls : List Call} {replies : List Reply} → Closed v r store → Session r store calls replies
     → (k : ℕ) → k < length calls → get_or replies k More ≡ Given v
-closed_after c no_calls k l = absurd (omega arith)
+closed_after c silence k l = absurd (omega arith)
 closed_after c (call f rest) zero l = (call_again c f).0
 closed_after {v} c (call f rest) (suc k) l =
     let a = call_again c f in
@@ -127,7 +127,7 @@ behind (Given v) r store bytes replies all last next on again l = again v l
 
 held_after : {r : Reader} {store bytes : List ℕ} {calls : List Call} {replies : List Reply} → Holds r store bytes → Session r store calls replies
     → (k : ℕ) → k < length calls → Follows (first_verdict (take k replies)) (bytes ++ joined (take (suc k) calls)) (get_or calls k no_call).last (get_or replies k More)
-held_after h no_calls k l = absurd (omega arith)
+held_after h silence k l = absurd (omega arith)
 held_after {bytes = bytes} h (call {c = c} {fed = fed} f rest) zero l = subst (λ (b : List ℕ). Owed (bytes ++ b) c.last fed.reply) (sym (append-nil c.run)) (call_owed h f)
 held_after {bytes = bytes} h (call {after = after} {c = c} {fed = fed} {calls = calls} {replies = replies} f rest) (suc k) l =
     let Next : List ℕ → Type 0 = λ b. Follows (first_verdict (take k replies)) b (get_or calls k no_call).last (get_or replies k More) in
@@ -205,7 +205,7 @@ owed_behind (Given v) {bytes = bytes} {calls = calls} e o left s k l on =
 owed_after : {r : Reader} {store bytes : List ℕ} {calls : List Call} {replies : List Reply} → Holds r store bytes → Session r store calls replies
     → (k : ℕ) → k < length calls → ((i : ℕ) → i < k → (get_or calls i no_call).last ≡ false)
     → Owed (bytes ++ joined (take (suc k) calls)) (get_or calls k no_call).last (get_or replies k More)
-owed_after h no_calls k l early = absurd (omega arith)
+owed_after h silence k l early = absurd (omega arith)
 owed_after {bytes = bytes} h (call {c = c} {fed = fed} f rest) zero l early = subst (λ (b : List ℕ). Owed (bytes ++ b) c.last fed.reply) (sym (append-nil c.run)) (call_owed h f)
 owed_after {bytes = bytes} h (call {after = after} {c = c} {fed = fed} {calls = calls} {replies = replies} f rest) (suc k) l early =
     let last = (get_or calls k no_call).last in

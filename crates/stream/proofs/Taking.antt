@@ -22,8 +22,8 @@ use Rattle.column.proofs.PrefixLaws.{check_cut, full_bad, full_over}
 use Rattle.stream.specs.declared.Reply.{Reply}
 use Rattle.stream.specs.declared.Reply.TheVariants.{More, Given}
 use Rattle.stream.specs.declared.Reader.{Reader}
-use Rattle.stream.specs.Feeding.{reader, out_of_range, seen, fitting, final, early, StaysInside, overfull, NextState, judged, certain, waits, Takes}
-use Rattle.stream.proofs.NextStates.{more_or_given, early_other, given_early, next_judged, next_more}
+use Rattle.stream.specs.Feeding.{reader, foreign, seen, fitting, final, early, StaysInside, overfull, Hears, judged, certain, waits, Takes}
+use Rattle.stream.proofs.Hearing.{more_or_given, early_other, given_early, hears_all, hears_more}
 
 -- ---- stores
 
@@ -44,13 +44,13 @@ or_false true = refl
 or_false false = refl
 
 -- a state that a call may have left
-pub own_len : (r : Reader) → out_of_range r ≡ false → r.len ≤ file_limit
+pub own_len : (r : Reader) → foreign r ≡ false → r.len ≤ file_limit
 own_len r e = ltb-false file_limit r.len (or_left (ltb file_limit r.len) (ltb slice_limit r.passed) e)
 
-pub own_passed : (r : Reader) → out_of_range r ≡ false → r.passed ≤ slice_limit
+pub own_passed : (r : Reader) → foreign r ≡ false → r.passed ≤ slice_limit
 own_passed r e = ltb-false slice_limit r.passed (or_right (ltb file_limit r.len) (ltb slice_limit r.passed) e)
 
-pub start_own : (len : ℕ) → len ≤ file_limit → out_of_range (reader len 0 More) ≡ false
+pub start_own : (len : ℕ) → len ≤ file_limit → foreign (reader len 0 More) ≡ false
 start_own len h = rw (le-ltb file_limit len h)
 
 -- ---- the bytes seen
@@ -89,7 +89,7 @@ module _ (r : Reader) (store run : List ℕ) (full : length store ≡ file_limit
         ap₂ take (e ∙ ap (λ (b : List ℕ). r.len + length b) whole) (f ∙ ap (sets store r.len) whole) ∙ all_seen run_fits
 
 -- what is said of a full store stands for all bytes behind it
-full_judged : (bytes x : List ℕ) {len : ℕ} {b : Bool} {next : Reader} → length bytes ≡ file_limit → 0 < length x → b ≡ false → NextState bytes len 0 b next
+full_judged : (bytes x : List ℕ) {len : ℕ} {b : Bool} {next : Reader} → length bytes ≡ file_limit → 0 < length x → b ≡ false → Hears bytes len 0 b next
     → (v : Verdict) × Judged (bytes ++ x) v × (overfull next.said ≡ Given v)
 full_judged bytes x full some e (judged j) = absurd (true≢false e)
 full_judged bytes x full some e (certain {v} g) =
@@ -104,15 +104,15 @@ full_judged bytes x full some e (waits g) = (Refused 8 file_limit, go (check_fil
         absurd (more_or_given (early (check_file bytes)) m' (ap early s ∙ sym (early_other other)))
 
 -- ---- the two ways to take a run
-pub same_next : {bytes bytes' : List ℕ} {len len' passed : ℕ} {b b' : Bool} {next : Reader} → bytes ≡ bytes' → len ≡ len' → b ≡ b' → NextState bytes len passed b next
-    → NextState bytes' len' passed b' next
-same_next e f g h = rw (← e, ← f, ← g) h
+pub same_hears : {bytes bytes' : List ℕ} {len len' passed : ℕ} {b b' : Bool} {next : Reader} → bytes ≡ bytes' → len ≡ len' → b ≡ b' → Hears bytes len passed b next
+    → Hears bytes' len' passed b' next
+same_hears e f g h = rw (← e, ← f, ← g) h
 
 module _ (r : Reader) (store run : List ℕ) (full : length store ≡ file_limit) (own : r.len ≤ file_limit) (last : Bool) where
-  next_overfull : file_limit - r.len < length run → {next : Reader} {said : Reply} {len : ℕ} → said ≡ overfull next.said
-      → (let front = seen (reader r.len 0 More) store (fitting r run) in NextState front len 0 (final false front) next)
-      → NextState (seen r store run) file_limit r.passed (final last (seen r store run)) (reader file_limit r.passed said)
-  next_overfull long {next} {said} e h =
+  over_heard : file_limit - r.len < length run → {next : Reader} {said : Reply} {len : ℕ} → said ≡ overfull next.said
+      → (let front = seen (reader r.len 0 More) store (fitting r run) in Hears front len 0 (final false front) next)
+      → Hears (seen r store run) file_limit r.passed (final last (seen r store run)) (reader file_limit r.passed said)
+  over_heard long {next} {said} e h =
       let room = file_limit - r.len in
       let part = fitting r run in
       let start = reader r.len 0 More in
@@ -125,9 +125,9 @@ module _ (r : Reader) (store run : List ℕ) (full : length store ≡ file_limit
           ∙ ap (λ (l : List ℕ). take r.len store ++ l) (take-append-drop (file_limit - r.len) run)
 
       go : ((v : Verdict) × Judged (seen (reader r.len 0 More) store (fitting r run) ++ drop (file_limit - r.len) run) v × (overfull next.said ≡ Given v))
-          → NextState (seen r store run) file_limit r.passed (final last (seen r store run)) (reader file_limit r.passed said)
+          → Hears (seen r store run) file_limit r.passed (final last (seen r store run)) (reader file_limit r.passed said)
       go (v, j, g) =
-          rw (e ∙ g) (next_judged (seen r store run) file_limit r.passed (is_final r store run full own long last) (subst (λ (l : List ℕ). Judged l v) all j))
+          rw (e ∙ g) (hears_all (seen r store run) file_limit r.passed (is_final r store run full own long last) (subst (λ (l : List ℕ). Judged l v) all j))
 
   -- all of it fits: the reader after the bytes at the front
   module _ (fits : length run ≤ file_limit - r.len) {after : List ℕ} (stored : after ≡ sets store r.len run) where
@@ -137,19 +137,19 @@ module _ (r : Reader) (store run : List ℕ) (full : length store ≡ file_limit
     front : bytes ≡ seen r store run
     front = ap (take (r.len + length run)) stored ∙ all_seen r store run full own fits
 
-    pub takes_all : {next : Reader} → NextState bytes (r.len + length run) r.passed last next → Takes r store run last next after
+    pub takes_all : {next : Reader} → Hears bytes (r.len + length run) r.passed last next → Takes r store run last next after
     takes_all h =
         let whole = all_fitting r store run full own fits in
         record {
           stored = stored ∙ ap (sets store r.len) (sym whole);
-          state = same_next front (ap (λ (l : List ℕ). r.len + length l) (sym whole)) (sym (not_final r store run full own fits last)) h;
+          hears = same_hears front (ap (λ (l : List ℕ). r.len + length l) (sym whole)) (sym (not_final r store run full own fits last)) h;
         }
 
     -- without a check, inside a slice
     pub takes_inside : last ≡ false → StaysInside (take r.len store) r.passed (length run) → Takes r store run last (reader (r.len + length run) r.passed More) after
     takes_inside e i =
         let w = i.waits run refl in
-        takes_all (same_next (sym front) refl refl (next_more (seen r store run) (r.len + length run) r.passed e w.0 refl w.1))
+        takes_all (same_hears (sym front) refl refl (hears_more (seen r store run) (r.len + length run) r.passed e w.0 refl w.1))
 
   -- some of it doesn't: what is said of the part that does
   pub takes_over : (long : file_limit - r.len < length run) {next : Reader} {after : List ℕ} {said : Reply} → said ≡ overfull next.said
@@ -160,5 +160,5 @@ module _ (r : Reader) (store run : List ℕ) (full : length store ≡ file_limit
       let start = reader r.len 0 More in
       record {
         stored = t.stored ∙ ap (sets store r.len) (all_fitting start store part full own (omega arith));
-        state = same_next refl (omega arith) refl (next_overfull long e t.state);
+        hears = same_hears refl (omega arith) refl (over_heard long e t.hears);
       }

@@ -22,8 +22,8 @@ abbrev pub fresh : Reader
 fresh = reader 0 0 More
 
 -- a state that no call leaves: more bytes than the store has, or more slices than a file
-abbrev pub out_of_range : Reader → Bool
-out_of_range r = ltb file_limit r.len || ltb slice_limit r.passed
+abbrev pub foreign : Reader → Bool
+foreign r = ltb file_limit r.len || ltb slice_limit r.passed
 
 -- what a check says while more bytes may come: bytes that run out (1) may go on, and so may a sound file
 abbrev pub early : Checked → Reply
@@ -42,10 +42,10 @@ pub record StaysInside (bytes : List ℕ) (passed more : ℕ) : Type 0 where
 
 -- the reader after some bytes, of which so many are kept and so many slices have passed before: with all of them there, the judge's verdict;
 -- else what the check says, taken up behind those slices
-pub data NextState (bytes : List ℕ) (len passed : ℕ) : Bool → Reader → Type 0 where
-  judged : {v : Verdict} → Judged bytes v → NextState bytes len passed true (reader len passed (Given v))
-  certain : {v : Verdict} → early (check_from passed bytes) ≡ Given v → NextState bytes len passed false (reader len passed (Given v))
-  waits : early (check_from passed bytes) ≡ More → NextState bytes len passed false (reader len (passed_from passed bytes) More)
+pub data Hears (bytes : List ℕ) (len passed : ℕ) : Bool → Reader → Type 0 where
+  judged : {v : Verdict} → Judged bytes v → Hears bytes len passed true (reader len passed (Given v))
+  certain : {v : Verdict} → early (check_from passed bytes) ≡ Given v → Hears bytes len passed false (reader len passed (Given v))
+  waits : early (check_from passed bytes) ≡ More → Hears bytes len passed false (reader len (passed_from passed bytes) More)
 
 -- the bytes seen, with a run: those at the front of the store, and the run
 abbrev pub seen : Reader → List ℕ → List ℕ → List ℕ
@@ -62,7 +62,7 @@ final last bytes = last || ltb file_limit (length bytes)
 -- a run taken into the store
 pub record Takes (r : Reader) (store run : List ℕ) (last : Bool) (next : Reader) (after : List ℕ) : Type 0 where
   pub stored : after ≡ sets store r.len (fitting r run)
-  pub state : NextState (seen r store run) (r.len + length (fitting r run)) r.passed (final last (seen r store run)) next
+  pub hears : Hears (seen r store run) (r.len + length (fitting r run)) r.passed (final last (seen r store run)) next
 
 -- a call that says something and leaves everything as it was
 pub record Keeps (reply : Reply) (r : Reader) (store : List ℕ) (fed : Fed) (after : List ℕ) : Type 0 where
@@ -84,4 +84,4 @@ FeedsBy true More true r store run last fed after = Keeps (Given (Refused 11 0))
 FeedsBy true More false r store run last fed after = TakesRun r store run last fed after
 
 pub record Feeds (r : Reader) (store run : List ℕ) (last : Bool) (fed : Fed) (after : List ℕ) : Type 0 where
-  pub by : FeedsBy (eqb (length store) file_limit) r.said (out_of_range r) r store run last fed after
+  pub by : FeedsBy (eqb (length store) file_limit) r.said (foreign r) r store run last fed after

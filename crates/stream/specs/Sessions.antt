@@ -47,7 +47,7 @@ pub record Call : Type 0 where
 
 -- "each call given the state the last one left": the replies to a list of calls
 pub data Session : Reader → List ℕ → List Call → List Reply → Type 0 where
-  no_calls : {r : Reader} {store : List ℕ} → Session r store [] []
+  silence : {r : Reader} {store : List ℕ} → Session r store [] []
   call : {r : Reader} {store after : List ℕ} {c : Call} {fed : Fed} {calls : List Call} {replies : List Reply}
       → Feeds r store c.run c.last fed after → Session fed.reader after calls replies → Session r store (c ∷ calls) (fed.reply ∷ replies)
 

@@ -4,7 +4,7 @@
 ghost use Rattle.std.specs.Prelude.{◌≡◌, true, false, ◌≤◌, length};
 ghost use Rattle.slicefile.specs.Format.{slice_limit};
 ghost use Rattle.column.specs.File.{file_limit};
-ghost use Rattle.stream.specs.Feeding.{out_of_range, early, StaysInside, overfull, NextState, Takes, Feeds};
+ghost use Rattle.stream.specs.Feeding.{foreign, early, StaysInside, overfull, Hears, Takes, Feeds};
 
 use column::{Checked, FILE_LIMIT, Verdict};
 use slicefile::{HEAD, SIZE_RECORD, SLICE_COUNT, SLICE_LIMIT, SLICE_RECORD, SLICE_TAG};
@@ -60,9 +60,9 @@ fn overfull_reply(said: Reply) -> Reply
 }
 
 // The reader after bytes that all stand in its store, while more may come.
-fn next_reader(bytes: &[u8], passed: usize) -> Reader
+fn hear(bytes: &[u8], passed: usize) -> Reader
     requires { passed ≤ slice_limit }
-    ensures { NextState bytes.now (length bytes.now) passed false result }
+    ensures { Hears bytes.now (length bytes.now) passed false result }
 {
     let len = bytes.len();
     let progress = column::check_from(bytes, passed);
@@ -81,7 +81,7 @@ fn next_reader(bytes: &[u8], passed: usize) -> Reader
 // Takes a run into the store of a reader that has given no verdict yet. Of one that finds no room, what does is taken first and checked from its
 // start.
 fn take_run(reader: Reader, store: &mut [u8], run: &[u8], last: bool) -> Reader
-    requires { (length store.old ≡ file_limit) × (out_of_range reader ≡ false) }
+    requires { (length store.old ≡ file_limit) × (foreign reader ≡ false) }
     ensures { Takes reader store.old run.now last result store.new }
 {
     let at = reader.len;
@@ -112,7 +112,7 @@ fn take_run(reader: Reader, store: &mut [u8], run: &[u8], last: bool) -> Reader
             said: Reply::Given(verdict),
         };
     }
-    next_reader(bytes, passed)
+    hear(bytes, passed)
 }
 
 // Whether the bytes end in the body of the slice behind those that passed, and still do with so many more: then nothing more is certain.
@@ -142,7 +142,7 @@ fn stays_inside(bytes: &[u8], passed: usize, more: usize) -> bool
 
 // Takes a run. In the body of a slice, where most runs of a few bytes end, there is nothing to check.
 fn take(reader: Reader, store: &mut [u8], run: &[u8], last: bool) -> Reader
-    requires { (length store.old ≡ file_limit) × (out_of_range reader ≡ false) }
+    requires { (length store.old ≡ file_limit) × (foreign reader ≡ false) }
     ensures { Takes reader store.old run.now last result store.new }
 {
     let at = reader.len;

@@ -8,8 +8,8 @@ use lib.ListN.{length}
 use Rattle.column.specs.Clock.{state_of}
 use Rattle.plan.proofs.Plans.{edges_long}
 use Rattle.buffers.proofs.Passed.{settle_passed}
-use Rattle.calls.specs.Calls.{plan_done}
-use Rattle.calls.proofs.Calls.{plan_refused_by}
+use Rattle.calls.specs.Calls.{carried_out}
+use Rattle.calls.proofs.Calls.{turned_by}
 use Rattle.simulator.specs.Running.{plan_refusal}
 use Rattle.clockruns.specs.Rows.{clock_count}
 use Rattle.clockruns.proofs.row_planned.Goals as goal
@@ -39,7 +39,7 @@ settle_refusal-number-requires c =
     (b.requires.0.few, edges_long b.requires.0 e.edges-edges.ensures)
 
 pub returns-then-number-ne0 : goal.returns-then-number-ne0
-returns-then-number-ne0 c = plan_refused_by _ (refusal c.before.before) c.if-number-ne0.true (refl, refl)
+returns-then-number-ne0 c = turned_by _ (refusal c.before.before) c.if-number-ne0.true (refl, refl)
 
 pub run_clocks-requires : goal.run_clocks-requires
 run_clocks-requires c =
@@ -55,4 +55,4 @@ returns c =
     let d = c in
     let e = d in
     let k = e in
-    plan_done (sym (refusal k) ∙ e.if-number-ne0.false) (rw (counted k).clock_count-k.ensures at d.run_clocks.ensures)
+    carried_out (sym (refusal k) ∙ e.if-number-ne0.false) (rw (counted k).clock_count-k.ensures at d.run_clocks.ensures)

@@ -15,8 +15,8 @@ use Rattle.editlist.specs.declared.Edit.{Edit}
 use Rattle.plan.specs.Plan.{plan_edges}
 use Rattle.plan.proofs.Plans.{edges_long, parts_walk}
 use Rattle.buffers.proofs.Passed.{edit_passed}
-use Rattle.calls.specs.Calls.{plan_done}
-use Rattle.calls.proofs.Calls.{plan_refused_by}
+use Rattle.calls.specs.Calls.{carried_out}
+use Rattle.calls.proofs.Calls.{turned_by}
 use Rattle.edits.specs.Edits.{changes_of, plan_refusal}
 use Rattle.edits.specs.Storing.{AllStorable}
 use Rattle.edits.proofs.Storing.{list_there, stored_bits}
@@ -61,7 +61,7 @@ edit_refusal-number-requires c =
     (b.requires.0.few, edges_long b.requires.0 c.edges-edges.ensures)
 
 pub returns-then-number-ne0 : goal.returns-then-number-ne0
-returns-then-number-ne0 c = plan_refused_by _ (refusal c.before.before) c.if-number-ne0.true (refl, refl)
+returns-then-number-ne0 c = turned_by _ (refusal c.before.before) c.if-number-ne0.true (refl, refl)
 
 pub store_edits-requires : goal.store_edits-requires
 store_edits-requires c =
@@ -94,7 +94,7 @@ returns c =
     let b = begin e in
     let stored = s.store_edits.ensures in
     let cs = changes_of (edits b) in
-    plan_done (none e) (
+    carried_out (none e) (
       stored.made b.args.flops.now,
       edited_plan b.args.plan.now b.args.n _ _ cs t.table-table.ensures
           (λ gate. stored.marked gate ∙ ap (λ (m : Bool). touches_any cs gate || m) (marks_none input_limit (4 * slice_limit) gate) ∙ or-false (touches_any cs gate))

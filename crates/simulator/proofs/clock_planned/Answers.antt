@@ -5,8 +5,8 @@ use Rattle.netlist.specs.Table.{wire_count}
 use Rattle.column.specs.Clock.{state_of}
 use Rattle.plan.proofs.Plans.{edges_long}
 use Rattle.buffers.proofs.Passed.{settle_passed}
-use Rattle.calls.specs.Calls.{plan_done}
-use Rattle.calls.proofs.Calls.{plan_refused_by}
+use Rattle.calls.specs.Calls.{carried_out}
+use Rattle.calls.proofs.Calls.{turned_by}
 use Rattle.simulator.specs.Running.{plan_refusal}
 use Rattle.simulator.proofs.clock_planned.Goals as goal
 use Rattle.simulator.proofs.clock_planned.Goals.{After-settle_refusal-number}
@@ -20,7 +20,7 @@ pub settle_refusal-number-requires : goal.settle_refusal-number-requires
 settle_refusal-number-requires c = let b = c in (b.requires.0.few, edges_long b.requires.0 c.edges-edges.ensures)
 
 pub returns-then-number-ne0 : goal.returns-then-number-ne0
-returns-then-number-ne0 c = plan_refused_by _ (refusal c.before.before) c.if-number-ne0.true (refl, refl)
+returns-then-number-ne0 c = turned_by _ (refusal c.before.before) c.if-number-ne0.true (refl, refl)
 
 pub clock_by-requires : goal.clock_by-requires
 clock_by-requires c =
@@ -35,4 +35,4 @@ pub returns : goal.returns
 returns c =
     let d = c in
     let e = d in
-    plan_done (sym (refusal e.before) ∙ e.if-number-ne0.false) (d.clock_by.ensures.moves, d.clock_by.ensures.settled)
+    carried_out (sym (refusal e.before) ∙ e.if-number-ne0.false) (d.clock_by.ensures.moves, d.clock_by.ensures.settled)

@@ -4,8 +4,8 @@ use borrow.Author.Rules.{rules}
 use Rattle.netlist.specs.Table.{wire_count}
 use Rattle.buffers.proofs.Passed.{settle_passed}
 use Rattle.plan.proofs.Plans.{edges_long, parts_walk}
-use Rattle.calls.specs.Calls.{plan_done}
-use Rattle.calls.proofs.Calls.{plan_refused_by}
+use Rattle.calls.specs.Calls.{carried_out}
+use Rattle.calls.proofs.Calls.{turned_by}
 use Rattle.simulator.specs.Running.{plan_refusal}
 use Rattle.column.specs.Clock.{state_of}
 use Rattle.simulator.proofs.settle_planned.Goals as goal
@@ -20,7 +20,7 @@ pub settle_refusal-number-requires : goal.settle_refusal-number-requires
 settle_refusal-number-requires c = let b = c in (b.requires.0.few, edges_long b.requires.0 c.edges-edges.ensures)
 
 pub returns-then-number-ne0 : goal.returns-then-number-ne0
-returns-then-number-ne0 c = plan_refused_by _ (refusal c.before.before) c.if-number-ne0.true refl
+returns-then-number-ne0 c = turned_by _ (refusal c.before.before) c.if-number-ne0.true refl
 
 pub settle_by-requires : goal.settle_by-requires
 settle_by-requires c =
@@ -36,4 +36,4 @@ returns c =
     let s = c in
     let t = s in
     let k = t in
-    plan_done (sym (refusal k) ∙ t.if-number-ne0.false) (rw t.table-table.ensures at s.settle_by.ensures.settled)
+    carried_out (sym (refusal k) ∙ t.if-number-ne0.false) (rw t.table-table.ensures at s.settle_by.ensures.settled)

@@ -11,10 +11,10 @@ use Rattle.column.specs.File.{file_limit}
 use Rattle.column.proofs.judge.Reads as judge
 use Rattle.slicerecord.proofs.put_bytes.Reads as put-bytes
 use Rattle.stream.specs.declared.Reader.{Reader}
-use Rattle.stream.specs.Feeding.{NextState, Takes}
-use Rattle.stream.proofs.NextStates.{next_judged}
-use Rattle.stream.proofs.Taking.{own_len, own_passed, start_own, same_next, takes_all, takes_over}
-use Rattle.stream.proofs.next_reader.Reads as next-reader
+use Rattle.stream.specs.Feeding.{Hears, Takes}
+use Rattle.stream.proofs.Hearing.{hears_all}
+use Rattle.stream.proofs.Taking.{own_len, own_passed, start_own, same_hears, takes_all, takes_over}
+use Rattle.stream.proofs.hear.Reads as next-reader
 use Rattle.stream.proofs.overfull_reply.Reads as overfull-reply
 use Rattle.stream.proofs.take_run.Reads as take-run
 use Rattle.stream.proofs.take_run.Kinds as kinds
@@ -93,7 +93,7 @@ module _ (t : ℕ) where
   -- the reader after bytes that all found room
   moved : (c : lts.After-put-bytes (claims t) (at t) take-run.Post) {next : Reader}
       → let a = c.before.before.before.before.before.args in
-      NextState (take (a.reader.len + length a.run.now) c.put-bytes.new.0) (a.reader.len + length a.run.now) a.reader.passed a.last next
+      Hears (take (a.reader.len + length a.run.now) c.put-bytes.new.0) (a.reader.len + length a.run.now) a.reader.passed a.last next
       → Takes a.reader a.store.now a.run.now a.last next c.put-bytes.new.0
   moved c h =
       let k = c.before.before.before.before in
@@ -101,10 +101,10 @@ module _ (t : ℕ) where
       (omega (arith, c.before.before.if1.false)) c.put-bytes.ensures h
 
   returns_2 : lts.Need-returns-2 (claims t) (at t) take-run.Post
-  returns_2 c = moved c.before.before.before.before.before (next_judged _ _ _ c.before.if2.true c.judge.ensures)
+  returns_2 c = moved c.before.before.before.before.before (hears_all _ _ _ c.before.if2.true c.judge.ensures)
 
-  next_reader_requires : lts.Need-next-reader-requires (claims t) (at t) take-run.Post
-  next_reader_requires c κs =
+  hear_requires : lts.Need-next-reader-requires (claims t) (at t) take-run.Post
+  hear_requires c κs =
       let s = c.before.before.before.before.before.before.before.before.before in
       own_passed s.args.reader s.requires.1.1
 
@@ -112,7 +112,7 @@ module _ (t : ℕ) where
   same_length_3 c = search rules
 
   returns_3 : lts.Need-returns-3 (claims t) (at t) take-run.Post
-  returns_3 c = moved c.before.before.before.before.before (same_next refl (sym (slice_aggregate_bytes c.before.before)) (sym c.before.if2.false) c.next-reader.ensures)
+  returns_3 c = moved c.before.before.before.before.before (same_hears refl (sym (slice_aggregate_bytes c.before.before)) (sym c.before.if2.false) c.next-reader.ensures)
 
 pub +take-run-spec : {M : Type 1} → statement M
 +take-run-spec =
@@ -131,6 +131,6 @@ pub +take-run-spec : {M : Type 1} → statement M
     (judge_requires t)
     (same_length_2 t)
     (returns_2 t)
-    (next_reader_requires t)
+    (hear_requires t)
     (same_length_3 t)
     (returns_3 t))

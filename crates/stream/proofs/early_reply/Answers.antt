@@ -2,7 +2,7 @@
 use mathlib.Core.Path.{sym, ap, ◌∙◌}
 use borrow.Author.Rules.{rules}
 use Rattle.stream.specs.Feeding.{early}
-use Rattle.stream.proofs.NextStates.{early_other}
+use Rattle.stream.proofs.Hearing.{early_other}
 use Rattle.stream.proofs.early_reply.Goals as goal
 
 pub returns-else-number-eq1 : goal.returns-else-number-eq1

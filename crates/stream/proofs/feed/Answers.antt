@@ -1,7 +1,7 @@
 -- `stream::feed` meets its contract. Assumes nothing.
 use mathlib.Core.Path.{refl}
 use borrow.Author.Rules.{rules}
-use Rattle.stream.proofs.Calls.{feeds_wrong, feeds_again, feeds_out_of_range, feeds_run}
+use Rattle.stream.proofs.Calls.{feeds_wrong, feeds_again, feeds_strange, feeds_run}
 use Rattle.stream.proofs.feed.Goals as goal
 
 pub returns-then-store-ne-FILE_LIMIT : goal.returns-then-store-ne-FILE_LIMIT
@@ -13,7 +13,7 @@ returns-in_default c = feeds_again c.if-store-ne-FILE_LIMIT.false c.enum_told-in
 pub returns-then-reader : goal.returns-then-reader
 returns-then-reader c =
     let more = c in
-    feeds_out_of_range more.if-store-ne-FILE_LIMIT.false more.enum_told-1.given.1 c.if-reader.true
+    feeds_strange more.if-store-ne-FILE_LIMIT.false more.enum_told-1.given.1 c.if-reader.true
     record { says = c.kept-then-reader.ensures.0; same = c.kept-then-reader.ensures.1; untouched = refl }
 
 pub returns : goal.returns

@@ -7,7 +7,7 @@ use borrow.Author.Tests.{eqb-true}
 use Rattle.framing.specs.Framing.{size_refusal}
 use Rattle.column.proofs.Places.{start_at}
 use Rattle.column.proofs.CheckLaws.{tail_whole}
-use Rattle.stream.proofs.NextStates.{inside_stays}
+use Rattle.stream.proofs.Hearing.{inside_stays}
 use Rattle.stream.proofs.stays_inside.Goals as goal
 use Rattle.stream.proofs.stays_inside.Goals.{Else-size_refusal-ne0}
 

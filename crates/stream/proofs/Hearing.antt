@@ -24,7 +24,7 @@ use Rattle.column.specs.declared.Verdict.{Verdict}
 use Rattle.column.specs.declared.Verdict.TheVariants.{Refused}
 use Rattle.stream.specs.declared.Reply.{Reply}
 use Rattle.stream.specs.declared.Reply.TheVariants.{More, Given}
-use Rattle.stream.specs.Feeding.{reader, early, StaysInside, NextState, judged, certain, waits}
+use Rattle.stream.specs.Feeding.{reader, early, StaysInside, Hears, judged, certain, waits}
 
 -- a reply is not both
 pub more_or_given : (reply : Reply) {v : Verdict} → reply ≡ More → reply ≡ Given v → ⊥
@@ -47,15 +47,15 @@ given_early (Bad k p) {v} e = by_number (ℕ_discrete k 1)
 given_early (Sound n m) e = absurd (more_or_given More refl e)
 
 module _ (bytes : List ℕ) (len passed : ℕ) {last : Bool} where
-  pub next_judged : {v : Verdict} → last ≡ true → Judged bytes v → NextState bytes len passed last (reader len passed (Given v))
-  next_judged {v} e j = subst (λ (b : Bool). NextState bytes len passed b (reader len passed (Given v))) (sym e) (judged j)
+  pub hears_all : {v : Verdict} → last ≡ true → Judged bytes v → Hears bytes len passed last (reader len passed (Given v))
+  hears_all {v} e j = subst (λ (b : Bool). Hears bytes len passed b (reader len passed (Given v))) (sym e) (judged j)
 
   module _ {said : Reply} (e : last ≡ false) (so : said ≡ early (check_from passed bytes)) where
-    pub next_verdict : {v : Verdict} → said ≡ Given v → NextState bytes len passed last (reader len passed said)
-    next_verdict {v} g = rw (e, g) (certain (sym so ∙ g))
+    pub hears_verdict : {v : Verdict} → said ≡ Given v → Hears bytes len passed last (reader len passed said)
+    hears_verdict {v} g = rw (e, g) (certain (sym so ∙ g))
 
-    pub next_more : {count : ℕ} → said ≡ More → count ≡ passed_from passed bytes → NextState bytes len passed last (reader len count said)
-    next_more g f = rw (e, g, f) (waits (sym so ∙ g))
+    pub hears_more : {count : ℕ} → said ≡ More → count ≡ passed_from passed bytes → Hears bytes len passed last (reader len count said)
+    hears_more g f = rw (e, g, f) (waits (sym so ∙ g))
 
 -- bytes that end in the body of the slice behind those that passed, and still do with more
 pub inside_stays : (bytes : List ℕ) (passed more : ℕ) → size_refusal bytes ≡ 0 → passed < slice_count bytes → record_start bytes passed + head_length ≤ length bytes
