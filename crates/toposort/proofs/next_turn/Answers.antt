@@ -1,9 +1,7 @@
 -- `toposort::next_turn` meets its contract: the read that the code looked at is the one before the mark of the top. Assumes nothing.
 use Prim.Native.Nat.{ℕ, suc, ◌-◌, ◌<◌}
-use mathlib.Core.List.{List}
-use mathlib.Core.Path.{◌≡◌, sym, ap, ◌∙◌}
+use mathlib.Core.Path.{◌≡◌, sym, ◌∙◌}
 use native.Mathlib.Omega.{arith}
-use lib.ListN.{get_or}
 use Rattle.toposort.specs.declared.Read.{Read}
 use Rattle.toposort.specs.declared.Read.TheVariants.{Signal}
 use Rattle.netlist.specs.declared.Gate.{Gate}
