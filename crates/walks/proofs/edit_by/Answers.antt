@@ -2,7 +2,6 @@
 use mathlib.Core.Path.{◌≡◌, ◌∙◌, sym}
 use Prim.Native.Nat.{ℕ, ◌≤◌}
 use native.Mathlib.Omega.{arith}
-use borrow.Author.Rules.{rules}
 use lib.ListN.{length, take}
 use Rattle.netlist.specs.Table.{signal_limit, signal_count, input_room, wire_count, wire_limit}
 use Rattle.netlist.proofs.Zeros.{zeros, zeros_length, zeros_all}

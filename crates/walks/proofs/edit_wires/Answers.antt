@@ -1,12 +1,11 @@
-use mathlib.Core.Path.{◌≡◌, sym, ◌∙◌}
-use Prim.Native.Nat.{◌*◌, ◌-◌, ◌≤◌}
+use mathlib.Core.Path.{sym, ◌∙◌}
+use Prim.Native.Nat.{◌≤◌}
 use native.Mathlib.Omega.{arith}
 use borrow.Author.Rules.{rules}
 use lib.ListN.{length, length-set}
 use Rattle.netlist.specs.Table.{signal_limit, signal_count}
-use Rattle.walks.specs.Walks.{StillWires}
 use Rattle.walks.proofs.Laying.{still_same}
-use Rattle.walks.proofs.Turns.{EditedAt, turn, turn_wires, set_still, edit_start, edit_turn, edit_pass, edit_end}
+use Rattle.walks.proofs.Turns.{turn, turn_wires, set_still, edit_start, edit_turn, edit_pass, edit_end}
 use Rattle.walks.proofs.edit_wires.Goals as goal
 use Rattle.walks.proofs.edit_wires.Goals.{then-gate_reached, else-gate_reached}
 
@@ -53,7 +52,7 @@ loop-i-preserved c =
     let long : signal_count c.args.n ≤ length c.loop-i.marks = omega (arith, k.sized.0, v.2) in
     let r = c.gate_reached.ensures in
     elim c.if-gate_reached.branch [
-      then-gate_reached w ↦ (
+      | then-gate_reached w ↦ (
         search rules,
         search rules,
         rw w.marks-is (simp length-set v.2),

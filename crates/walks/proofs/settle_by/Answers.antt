@@ -1,5 +1,4 @@
 -- `walks::settle_by` meets its contract. Assumes nothing.
-use borrow.Author.Rules.{rules}
 use Rattle.walks.proofs.Turns.{settled_by}
 use Rattle.walks.proofs.settle_by.Goals as goal
 
