@@ -114,7 +114,7 @@ module _ (P : Reply → Type 0) (small : (v : Verdict) → SmallVerdict v → P 
     by_row false said out e f k = keeps_all (refused 10 (omega arith) (omega arith)) k
     by_row true (Given v) out e f k = keeps_all (subst P e before) k
     by_row true More true e f k = keeps_all (refused 11 (omega arith) (omega arith)) k
-    by_row true More false e f k = let h = hears_all _ (own_passed r f) k.takes.state in (subst P (sym k.says) h, h)
+    by_row true More false e f k = let h = hears_all _ (own_passed r f) k.takes.hears in (subst P (sym k.says) h, h)
 
     pub feeds_all : Feeds r store run last fed after → Both
     feeds_all f = by_row (eqb (length store) file_limit) r.said (foreign r) refl refl f.by
