@@ -1,12 +1,11 @@
 -- A pin left open, driver code 2. Assumes nothing.
 use mathlib.Core.Path.{◌≡◌, ◌∙◌, refl, ap, subst⁻¹}
 use mathlib.Core.Bool.{true}
-use mathlib.Core.List.{List, [], ◌∷◌, ◌++◌}
+use mathlib.Core.List.{List}
 use Prim.Native.Nat.{ℕ}
 use Rattle.netlist.specs.Rule.{value_of, signals_in}
 use Rattle.netlist.specs.Table.{code_of}
-use Rattle.netlist.specs.declared.Source.{Source}
-use Rattle.netlist.specs.declared.Source.TheVariants.{Constant, Input, Signal}
+use Rattle.netlist.specs.declared.Source.TheVariants.{Constant}
 use Rattle.slicefile.specs.Format.{pin_code}
 use Rattle.slicefile.specs.Driver.{driver_of}
 use Rattle.slicefile.proofs.DriverLaws.{two_open}

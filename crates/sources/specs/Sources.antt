@@ -1,6 +1,6 @@
 -- Where a slice takes its bits from. n and m are the file's slice count and outside inputs, s is a slice's number, body the body of its record, p a pin, k a
 -- signal of the slice, l a letter (A to D count 0 to 3).
-use Rattle.std.specs.Prelude.{ℕ, ◌+◌, ◌*◌, ◌≤◌, ◌<◌, ◌≡◌, true, false, cond, List, ◌∷◌, ◌++◌, ltb, eqb}
+use Rattle.std.specs.Prelude.{ℕ, ◌+◌, ◌*◌, ◌≤◌, ◌<◌, ◌≡◌, true, false, cond, List, ◌∷◌, ltb, eqb}
 use Rattle.netlist.specs.Rule.{value_of, signals_in, is_input}
 use Rattle.netlist.specs.Table.{slice_signals, code_of}
 use Rattle.netlist.specs.declared.Source.{Source}

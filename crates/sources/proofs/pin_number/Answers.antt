@@ -4,7 +4,6 @@ use Rattle.netlist.specs.Table.{input_room}
 use Rattle.slicefile.specs.Driver.{DecodedWithin, driver_of}
 use Rattle.slicefile.proofs.DriverLaws.{decoded_within, within_more}
 use Rattle.sources.specs.Sources.{pin_source}
-use borrow.Author.Rules.{rules}
 use Rattle.sources.proofs.pin_number.Goals as goal
 
 pub decoded_number-requires : goal.decoded_number-requires

@@ -1,16 +1,13 @@
-use mathlib.Core.Path.{◌≡◌, ◌∙◌, refl}
-use Prim.Native.Nat.{ℕ, ◌-◌, ◌≤◌, ◌<◌}
+use mathlib.Core.Path.{◌∙◌, refl}
 use native.Mathlib.Nat.{not-suc-le-zero}
 use native.Mathlib.Omega.{arith}
 use borrow.Author.Count.{below_more}
-use borrow.Author.Rules.{rules}
 use lib.Dec.{lit≤}
-use lib.ListN.{length, get_or, length-set}
+use lib.ListN.{length-set}
 use lib.Seq.{get_or-set_same, get_or-set_other}
-use Rattle.netlist.specs.Table.{code_of}
 use Rattle.slicefile.specs.Format.{pin_count}
 use Rattle.slicefile.proofs.Tabulate.{tabulated}
-use Rattle.sources.specs.Sources.{pin_source, pin_numbers}
+use Rattle.sources.specs.Sources.{pin_numbers}
 use Rattle.sources.proofs.pin_numbers.Goals as goal
 
 pub loop-p-init : goal.loop-p-init

@@ -2,7 +2,6 @@
 use Prim.Native.Nat.{◌≤◌}
 use native.Mathlib.Omega.{arith}
 use Rattle.toposort.proofs.Reading.{places_most}
-use borrow.Author.Rules.{rules}
 use Rattle.toposort.proofs.first_mark.Goals as goal
 use Rattle.toposort.proofs.first_mark.Goals.{After-place_count-places}
 

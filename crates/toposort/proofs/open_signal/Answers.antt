@@ -6,7 +6,6 @@ use Rattle.toposort.specs.Reading.{head_of}
 use Rattle.toposort.proofs.Components.{depth_le, count_le}
 use Rattle.toposort.proofs.Opening.{len_lt, push}
 use Rattle.toposort.proofs.Reading.{places, places_most, none_before}
-use borrow.Author.Rules.{rules}
 use Rattle.toposort.proofs.open_signal.Goals as goal
 use Rattle.toposort.proofs.open_signal.Goals.{Start}
 

@@ -1,7 +1,6 @@
 -- `toposort::place_count` meets its contract, test by test. Assumes nothing.
 use borrow.Author.Tests.{lt-ltb, le-ltb, eq-eqb, ne_eqb}
 use Rattle.toposort.specs.Reading.{place_count}
-use borrow.Author.Rules.{rules}
 use Rattle.toposort.proofs.place_count.Goals as goal
 
 pub returns-then-head-n : goal.returns-then-head-n

@@ -4,7 +4,6 @@ use mathlib.Core.Path.{◌≡◌, sym, ◌∙◌}
 use native.Mathlib.Omega.{arith}
 use Rattle.netlist.specs.Table.{row_length}
 use Rattle.toposort.proofs.Reading.{counted_source}
-use borrow.Author.Rules.{rules}
 use Rattle.toposort.proofs.read_at.Goals as goal
 
 pub returns : goal.returns
