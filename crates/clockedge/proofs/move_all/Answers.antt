@@ -18,19 +18,17 @@ loop-s-init c = (search rules, moved_start _ _ _ _)
 
 pub move_slice-requires : goal.move_slice-requires
 move_slice-requires c =
-    let l = c in
-    let b = l in
-    let w = l.loop-s.invariant.1 in
-    (rw (part b.args.edges.now l.loop-s.s) (b.requires.n_le_slice_limit.1.each l.loop-s.s (search rules)), omega (arith, w.contents_size, b.requires.contents_len.0), omega (arith, w.flops_size, b.requires.contents_len.1))
+    let s = c.loop-s.s in
+    let w = c.loop-s.invariant.1 in
+    let r = c.requires in
+    (rw (part c.args.edges.now s) (r.n_le_slice_limit.1.each s (search rules)), omega (arith, w.contents_size, r.contents_len.0), omega (arith, w.flops_size, r.contents_len.1))
 
 pub loop-s-preserved : goal.loop-s-preserved
 loop-s-preserved c =
-    let k = c in
-    let l = k in
-    let b = l in
-    let w = l.loop-s.invariant.1 in
-    let e = part b.args.edges.now l.loop-s.s in
-    (search rules, moved_next _ _ _ _ l.loop-s.s _ _ _ _ (omega (arith, w.flops_size, b.requires.contents_len.1)) w (rw e at k.move_slice.ensures.moved) (rw e at k.move_slice.ensures.flops_value))
+    let s = c.loop-s.s in
+    let w = c.loop-s.invariant.1 in
+    let e = part c.args.edges.now s in
+    (search rules, moved_next _ _ _ _ s _ _ _ _ (omega (arith, w.flops_size, c.requires.contents_len.1)) w (rw e at c.move_slice.ensures.moved) (rw e at c.move_slice.ensures.flops_value))
 
 pub shape_of-contents : goal.shape_of-contents
 shape_of-contents c = c.loop-s.invariant.1.contents_size
@@ -40,7 +38,8 @@ shape_of-flops c = c.loop-s.invariant.1.flops_size
 
 pub returns : goal.returns
 returns c =
-    let l = c in
-    let b = l in
-    let e : l.loop-s.s ≡ b.args.n = omega arith in
-    moved_all _ _ _ _ b.args.n b.requires.contents_len.0 b.requires.contents_len.1 (rw e at l.loop-s.invariant.1)
+    let a = c.args in
+    let r = c.requires.contents_len in
+    let e : c.loop-s.s ≡ a.n = omega arith in
+    let all = moved_all a.wires.now a.edges.now a.contents.now a.flops.now a.n r.0 r.1 (rw e at c.loop-s.invariant.1) in
+    record { contents_value = all.0; flops_value = all.1 }

@@ -11,7 +11,7 @@ use Rattle.clockedge.specs.Moves.{written_by, word_by}
 use Rattle.clockedge.proofs.next_word.Goals as goal
 
 pub wire-enable-requires : goal.wire-enable-requires
-wire-enable-requires c = let b = c in (b.requires.0.pins write_place (lit< tt), b.requires.0.bits)
+wire-enable-requires c = (c.requires.0.pins write_place (lit< tt), c.requires.0.bits)
 
 pub returns-then-enable-ne1 : goal.returns-then-enable-ne1
 unfolding word_by
@@ -22,18 +22,17 @@ unfolding word_by written_by
 returns-then-kind-eq0 c = rw (eq-eqb _ 1 (sym c.wire-enable.ensures.0 ∙ c.if-enable-ne1.false), eq-eqb _ 0 c.if-kind-eq0.true)
 
 pub wire-bit-requires : goal.wire-bit-requires
-wire-bit-requires c = let b = c in (b.requires.0.writes b.args.l b.requires.1, b.requires.0.bits)
+wire-bit-requires c = (c.requires.0.writes c.args.l c.requires.1, c.requires.0.bits)
 
 pub number_on-address-requires : goal.number_on-address-requires
 number_on-address-requires c =
-    let b = c in
-    (omega (arith, b.requires.0.size), lit≤ tt, λ j h. b.requires.0.pins (address_place + j) (omega arith), b.requires.0.bits)
+    (omega (arith, c.requires.0.size), lit≤ tt, λ j h. c.requires.0.pins (address_place + j) (omega arith), c.requires.0.bits)
 
 pub returns-then-kind-eq1 : goal.returns-then-kind-eq1
 unfolding word_by written_by
 returns-then-kind-eq1 c =
     rw (eq-eqb _ 1 (sym c.wire-enable.ensures.0 ∙ c.if-enable-ne1.false), ne_eqb _ 0 c.if-kind-eq0.false, eq-eqb _ 1 c.if-kind-eq1.true)
-    (c.with_bit.ensures ∙ ap₂ (with_bit c.args.old) c.number_on_lem.ensures.0 c.wire-bit.ensures.0)
+    (c.with_bit.ensures ∙ ap₂ (with_bit c.args.old) c.number_on-address.ensures.0 c.wire-bit.ensures.0)
 
 pub returns-then-kind-eq2 : goal.returns-then-kind-eq2
 unfolding word_by written_by

@@ -3,7 +3,6 @@ use Rattle.netlist.specs.Table.{code_of, gate_numbers}
 use native.Mathlib.Omega.{arith}
 use Rattle.slicefile.specs.Format.{bypass_pin}
 use Rattle.sources.proofs.PinLaws.{pin_at}
-use borrow.Author.Rules.{rules}
 use Rattle.series7.proofs.by_bypass.Goals as goal
 
 pub returns : goal.returns

@@ -5,7 +5,6 @@ use Rattle.netlist.specs.Table.{code_of}
 use Rattle.slicefile.specs.Format.{bypass_pin}
 use Rattle.sources.proofs.PinLaws.{pin_at}
 use Rattle.series7.specs.Signals.{carry_source}
-use borrow.Author.Rules.{rules}
 use Rattle.series7.proofs.carry_data.Goals as goal
 
 pub returns-then-body-l-eq0 : goal.returns-then-body-l-eq0

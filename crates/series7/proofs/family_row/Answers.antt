@@ -1,7 +1,6 @@
 -- `series7::family_row` meets its contract. Assumes nothing.
 use Rattle.netlist.specs.Table.{gate_numbers}
 use Rattle.series7.specs.Signals.{family_gate}
-use borrow.Author.Rules.{rules}
 use Rattle.series7.proofs.family_row.Goals as goal
 
 pub returns-in-O6 : goal.returns-in-O6

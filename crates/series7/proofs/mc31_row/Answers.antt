@@ -1,7 +1,6 @@
 -- `series7::mc31_row` meets its contract. Assumes nothing.
 use borrow.Author.Tests.{eq-eqb, ne_eqb}
 use Rattle.netlist.specs.Table.{code_of, gate_numbers}
-use borrow.Author.Rules.{rules}
 use Rattle.series7.proofs.mc31_row.Goals as goal
 
 pub returns-then-body-eq2 : goal.returns-then-body-eq2

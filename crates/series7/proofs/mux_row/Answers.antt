@@ -1,6 +1,5 @@
 -- `series7::mux_row` meets its contract. Assumes nothing.
 use Rattle.netlist.specs.Table.{code_of, gate_numbers}
-use borrow.Author.Rules.{rules}
 use Rattle.series7.proofs.mux_row.Goals as goal
 
 pub returns : goal.returns

@@ -1,6 +1,5 @@
 -- `series7::row_at` meets its contract. Assumes nothing.
 use Rattle.series7.specs.Signals.{slice_gate}
-use borrow.Author.Rules.{rules}
 use Rattle.series7.proofs.row_at.Goals as goal
 
 pub returns : goal.returns

@@ -1,7 +1,6 @@
 -- `series7::sum_row` meets its contract. Assumes nothing.
 use Rattle.netlist.specs.Table.{code_of, gate_numbers}
 use Rattle.series7.specs.Signals.{family_gate}
-use borrow.Author.Rules.{rules}
 use Rattle.series7.proofs.sum_row.Goals as goal
 
 pub returns : goal.returns

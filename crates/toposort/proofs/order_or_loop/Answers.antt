@@ -36,12 +36,7 @@ scan_all-best-requires c =
     let sized : Sized N bs = record { marks = e; pos = e; stack = e; heads = e; path = e; order = c.requires.table.2 } in
     record { table = (c.requires.table.0, c.requires.well_formed); flop_rows = (c.requires.table.1, (sized, zeros_all signal_limit N)) }
 
-pub returns-then-best-size : goal.returns-then-best-size
-returns-then-best-size c =
-    let s = c.scan_all-best.ensures.0 in
-    (c.if-best-size.true, s.loops c.if-best-size.true, s.least)
-
 pub returns : goal.returns
 returns c =
     let s = c.scan_all-best.ensures in
-    (s.0.ordered (omega (arith, s.0.best_le, c.if-best-size.false)), s.1)
+    (s.0.ordered (omega (arith, s.0.best_le)), s.1)

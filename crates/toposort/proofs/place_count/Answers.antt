@@ -18,17 +18,14 @@ returns-then-head-n-3 c = simp (le-ltb _ _ c.if-head-n.false, le-ltb _ _ c.if-he
 pub returns-then-head-n-4 : goal.returns-then-head-n-4
 unfolding place_count
 returns-then-head-n-4 c =
-    let b = c in
-    simp (le-ltb _ _ b.if-head-n.false, le-ltb _ _ b.if-head-n-2.false, ne_eqb _ _ c.if-head-n-3.false, eq-eqb _ _ c.if-head-n-4.true)
+    simp (le-ltb _ _ c.if-head-n.false, le-ltb _ _ c.if-head-n-2.false, ne_eqb _ _ c.if-head-n-3.false, eq-eqb _ _ c.if-head-n-4.true)
 
 pub returns-then-head-n-5 : goal.returns-then-head-n-5
 unfolding place_count
 returns-then-head-n-5 c =
-    let b = c in
-    simp (le-ltb _ _ b.if-head-n.false, le-ltb _ _ b.if-head-n-2.false, ne_eqb _ _ c.if-head-n-3.false, ne_eqb _ _ c.if-head-n-4.false, eq-eqb _ _ c.if-head-n-5.true)
+    simp (le-ltb _ _ c.if-head-n.false, le-ltb _ _ c.if-head-n-2.false, ne_eqb _ _ c.if-head-n-3.false, ne_eqb _ _ c.if-head-n-4.false, eq-eqb _ _ c.if-head-n-5.true)
 
 pub returns-else-head-n-5 : goal.returns-else-head-n-5
 unfolding place_count
 returns-else-head-n-5 c =
-    let b = c in
-    simp (le-ltb _ _ b.if-head-n.false, le-ltb _ _ b.if-head-n-2.false, ne_eqb _ _ c.if-head-n-3.false, ne_eqb _ _ c.if-head-n-4.false, ne_eqb _ _ c.if-head-n-5.false)
+    simp (le-ltb _ _ c.if-head-n.false, le-ltb _ _ c.if-head-n-2.false, ne_eqb _ _ c.if-head-n-3.false, ne_eqb _ _ c.if-head-n-4.false, ne_eqb _ _ c.if-head-n-5.false)
