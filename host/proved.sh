@@ -6,6 +6,7 @@
 # `make_program`, which builds the program and hands it to `store`.
 kept=$root/target/$self
 build_log=$root/target/$self-build.log
+prover=$root/host/rt
 
 # The crates that host/cli depends on are looked for where Debian's packages of these names put them.
 registry=${DEBIAN_CRATES:-/usr/share/cargo/registry}
@@ -24,7 +25,7 @@ debian() {
     folders=$(ls -d "$registry"/clap-4.* "$registry"/clap_complete-4.* "$registry"/indicatif-0.17.* 2> /dev/null) && printf '%s\n' "$folders"
 }
 
-# A crate and all below it, by crates.txt.
+# A crate and all below it, by crates.txt; of a library that has exports in a crate of their own, NAME_c, these and all below them.
 crates() { # CRATE
     awk -F : -v top="$1" '
         function visit(crate,    i, count, names) {
@@ -34,8 +35,8 @@ crates() { # CRATE
             count = split(below[crate], names, " ")
             for (i = 1; i <= count; i++) visit(names[i])
         }
-        { sub(/#.*/, ""); gsub(/[ \t]/, "", $1); below[$1] = $2 }
-        END { visit(top) }' "$root/crates.txt"
+        { sub(/#.*/, ""); split($1, name, " "); below[name[1]] = $2 }
+        END { visit(top "_c" in below ? top "_c" : top) }' "$root/crates.txt"
 }
 
 # What is built from a crate, all below it and what else is named, in lines: crates.txt, and the sum of each file. They go by what the files hold,
@@ -44,7 +45,7 @@ sums() { # CRATE [PATHS...]
     local folders
     folders=$(crates "$1" | sed 's|^|crates/|') && [ -n "$folders" ] && cd "$root" || return
     # shellcheck disable=SC2086 # the names of crates have no spaces
-    cat crates.txt && find $folders "${@:2}" -name must-fail -prune -o -type f -exec sha256sum {} + | LC_ALL=C sort
+    cat crates.txt && find $folders "${@:2}" \( -name must-fail -o -name out \) -prune -o -type f -exec sha256sum {} + | LC_ALL=C sort
 }
 
 # One number for all lines.
@@ -69,9 +70,9 @@ progress() { # CRATE
     done
 }
 
-# Has rt prove a crate and all below it, and make what is built from them.
+# Has host/rt prove a crate and all below it, and make what is built from them.
 prove() { # check|staticlib CRATE
-    (cd "$root" && rt "$1" "$2" 2>&1 < /dev/null) | tee "$build_log" | progress "$2" || fail "rt $1 $2 failed, so there is no program; $build_log says why"
+    (cd "$root" && "$prover" "$1" "$2" 2>&1 < /dev/null) | tee "$build_log" | progress "$2" || fail "host/rt $1 $2 failed, so there is no program; $build_log says why"
 }
 
 # Proves archives in a repository, and leaves them in a folder as shared libraries.

@@ -1,4 +1,4 @@
-//! Links the archive that `rt staticlib quagmuffin` writes.
+//! Links the archive that `host/rt staticlib quagmuffin` writes.
 
 use std::path::Path;
 
@@ -8,7 +8,7 @@ fn main() {
     println!("cargo:rerun-if-changed={}", archive.display());
     if !archive.exists() {
         eprintln!(
-            "no archive at {}: run 'rt staticlib quagmuffin'",
+            "no archive at {}: run 'host/rt staticlib quagmuffin'",
             archive.display()
         );
         std::process::exit(1);

@@ -1,5 +1,5 @@
 -- How a call on a file goes, put together. Assumes nothing.
-use mathlib.Core.Path.{◌≡◌, refl, sym, ◌∙◌}
+use mathlib.Core.Path.{◌≡◌, refl, sym, ◌∙◌, subst}
 use mathlib.Core.List.{List}
 use Prim.Native.Nat.{ℕ, zero, suc}
 use Rattle.slicefile.specs.declared.Answer.{Answer}
@@ -7,7 +7,7 @@ use Rattle.slicefile.specs.declared.Answer.TheVariants.{Refused}
 use Rattle.column.specs.Judge.{Judged}
 use Rattle.column.specs.declared.Verdict.{Verdict}
 use Rattle.column.specs.declared.Verdict.TheVariants.{Refused as VerdictRefused, Accepted}
-use Rattle.plan.specs.Plan.{Loaded}
+use Rattle.plan.specs.Plan.{Ready, Loaded}
 use Rattle.calls.specs.Calls.{Called, judged, refused, done, Planned, turned_down, carried_out, refusal_of}
 
 module _ (file : List ℕ) (own : ℕ → ℕ → ℕ) {Kept : Type 0} {Did : ℕ → ℕ → Type 0} where
@@ -36,3 +36,7 @@ turned_by (suc k) e ne kept = turned_down (sym e) kept
 pub loaded_judged : (file plan : List ℕ) (v : Verdict) → Loaded file plan v → Judged file v
 loaded_judged file plan (VerdictRefused k p) l = l
 loaded_judged file plan (Accepted n m) l = l.verdict
+
+-- the plan of one that is accepted
+pub loaded_ready : {file plan : List ℕ} {v : Verdict} {n m : ℕ} → v ≡ Accepted n m → Loaded file plan v → Ready file n m plan
+loaded_ready {file} {plan} e l = subst (Loaded file plan) e l

@@ -4,13 +4,13 @@
 ghost use Rattle.std.specs.Prelude.{◌<◌, ◌≤◌};
 ghost use Rattle.slicefile.specs.Format.{slice_tag, body_length, pin_count};
 
-use libc::STDOUT_FILENO;
 use netlist::SLICE_SIGNALS;
 use slicefile::{
     Answer, BYPASS_PIN, CARRY_DATA, CARRY_START, CODE, CONTENTS, END_TAG, HEAD, KIND, MODE_D, PINS,
     PINS_D, SET_RESET_USED, SET_RESET_VALUES, SIZE_BODY, SIZE_RECORD, SIZE_TAG, SLICE_BODY,
     SLICE_COUNT, SLICE_RECORD, SLICE_TAG, SR_PIN, TABLE_PINS, WE_PIN,
 };
+use std::io;
 
 // A file of one slice: where the slice's record, its body and the end record begin, and its length.
 const RECORD: usize = SIZE_RECORD;
@@ -101,38 +101,38 @@ fn resetting(values: u8) -> File {
 }
 
 // A space and the number.
-fn print_number(n: u64) {
-    io::write_all(STDOUT_FILENO, b" ");
-    io::print_decimal(STDOUT_FILENO, n);
+fn print_number(rt: &impl Print, n: u64) -> io::Result<()> {
+    print!(rt; " {n}")
 }
 
 // The numbers of the signals at 1.
-fn print_ones(values: &[u8]) {
+fn print_ones(rt: &impl Print, values: &[u8]) -> io::Result<()> {
     let mut i = 0;
     while i < values.len() {
         if values[i] == 1 {
-            print_number(i as u64);
+            print_number(rt, i as u64)?;
         }
         i += 1;
     }
+    Ok(())
 }
 
 // What a file settles to from power-up, in the contents lent. The value table starts as ones.
-fn settle_case(label: &[u8], file: File, contents: &mut [u64]) {
+fn settle_case(rt: &impl Print, label: &str, file: File, contents: &mut [u64]) -> io::Result<()> {
     let mut flops = [0u8; 1];
     let mut values = [1u8; SLICE_SIGNALS];
     let inputs = [0u8; 0];
     calls::power_up(&file, contents, &mut flops);
-    io::write_all(STDOUT_FILENO, label);
+    print!(rt; "{label}")?;
     match simulator::settle(&file, contents, &flops, &inputs, &mut values) {
         Answer::Refused { number, place } => {
-            io::write_all(STDOUT_FILENO, b" refused");
-            print_number(number as u64);
-            print_number(place as u64);
+            print!(rt; " refused")?;
+            print_number(rt, number as u64)?;
+            print_number(rt, place as u64)?;
         }
-        Answer::Done => print_ones(&values),
+        Answer::Done => print_ones(rt, &values)?,
     }
-    io::write_all(STDOUT_FILENO, b"\n");
+    println!(rt; "")
 }
 
 // What a number of clocks leave from power-up.
@@ -159,22 +159,27 @@ fn wide(byte: u8) -> u64 {
 }
 
 // Case 5 drives A1 by 4096: its high byte is 16.
-fn main() {
+fn main(rt: HostRuntime) -> io::Result<()> {
     let mut words = [0u64; 4];
     let mut short = [0u64; 3];
-    settle_case(b"case 1:", base(), &mut words);
-    settle_case(b"case 2:", set(base(), CONTENTS, 1), &mut words);
-    settle_case(b"case 3:", set(base(), CARRY_START, 1), &mut words);
-    settle_case(b"case 4:", fill(set(base(), CARRY_START, 1)), &mut words);
-    settle_case(b"case 5:", set(base(), A1_HIGH, 16), &mut words);
-    settle_case(b"short contents:", base(), &mut short);
-    io::write_all(STDOUT_FILENO, b"case 9:");
-    print_number(clocked(writing(2), 1).word);
-    print_number(clocked(writing(2), 32).word);
-    io::write_all(STDOUT_FILENO, b"\ncase 10:");
-    print_number(clocked(address(writing(1)), 1).word);
-    io::write_all(STDOUT_FILENO, b"\ncase 11:");
-    print_number(wide(clocked(resetting(1), 1).flops));
-    print_number(wide(clocked(resetting(255), 1).flops));
-    io::write_all(STDOUT_FILENO, b"\n");
+    settle_case(&rt, "case 1:", base(), &mut words)?;
+    settle_case(&rt, "case 2:", set(base(), CONTENTS, 1), &mut words)?;
+    settle_case(&rt, "case 3:", set(base(), CARRY_START, 1), &mut words)?;
+    settle_case(
+        &rt,
+        "case 4:",
+        fill(set(base(), CARRY_START, 1)),
+        &mut words,
+    )?;
+    settle_case(&rt, "case 5:", set(base(), A1_HIGH, 16), &mut words)?;
+    settle_case(&rt, "short contents:", base(), &mut short)?;
+    print!(rt; "case 9:")?;
+    print_number(&rt, clocked(writing(2), 1).word)?;
+    print_number(&rt, clocked(writing(2), 32).word)?;
+    print!(rt; "\ncase 10:")?;
+    print_number(&rt, clocked(address(writing(1)), 1).word)?;
+    print!(rt; "\ncase 11:")?;
+    print_number(&rt, wide(clocked(resetting(1), 1).flops))?;
+    print_number(&rt, wide(clocked(resetting(255), 1).flops))?;
+    println!(rt; "")
 }

@@ -103,8 +103,7 @@ fn row(
 }
 
 // As many clocks as the inputs are for, m bytes each; the buffers are judged as for one clock. The values are those before the last edge.
-#[unsafe(no_mangle)]
-pub extern "C" fn clocks_in_a_row(
+pub fn clocks_in_a_row(
     file: &[u8],
     contents: &mut [u64],
     flops: &mut [u8],

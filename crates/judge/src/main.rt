@@ -1,23 +1,36 @@
 // Judges the slice file on standard input and writes one line: `accepted N M` or `refused NUMBER PLACE`.
 #![tactic(auto)]
 
-use column::{FILE_LIMIT, Verdict};
-use libc::{STDIN_FILENO, STDOUT_FILENO};
+ghost use Rattle.std.specs.Prelude.{◌≤◌, length};
 
-fn print_line(word: &[u8], a: usize, b: usize) {
-    io::write_all(STDOUT_FILENO, word);
-    io::print_decimal(STDOUT_FILENO, a as u64);
-    io::write_all(STDOUT_FILENO, b" ");
-    io::print_decimal(STDOUT_FILENO, b as u64);
-    io::write_all(STDOUT_FILENO, b"\n");
+use column::{FILE_LIMIT, Verdict};
+use std::io;
+use std::io::Read;
+
+// Reads until the buffer is full, the input ends or a read fails, and gives how many bytes it put at the start of the buffer.
+fn read_full<R: Read>(input: &mut R, bytes: &mut [u8]) -> usize
+    ensures { result ≤ length bytes.new }
+{
+    let mut done = 0;
+    while done < bytes.len() {
+        let Ok(n) = input.read(&mut bytes[done..]) else {
+            break;
+        };
+        if n == 0 {
+            break;
+        }
+        done += n;
+    }
+    done
 }
 
 // One byte more than the longest file is read: those decide on any input. A read that fails counts as the end of the input.
-fn main() {
+fn main(rt: HostRuntime) -> io::Result<()> {
     let mut bytes = [0u8; FILE_LIMIT + 1];
-    let count = io::read_full(STDIN_FILENO, &mut bytes);
+    let mut input = rt.stdin();
+    let count = read_full(&mut input, &mut bytes);
     match column::judge(&bytes[..count]) {
-        Verdict::Refused { number, place } => print_line(b"refused ", number, place),
-        Verdict::Accepted { n, m } => print_line(b"accepted ", n, m),
+        Verdict::Refused { number, place } => println!(rt; "refused {number} {place}"),
+        Verdict::Accepted { n, m } => println!(rt; "accepted {n} {m}"),
     }
 }

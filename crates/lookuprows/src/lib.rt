@@ -30,16 +30,14 @@ fn row(contents: &[u64], picks: &[u16], link: u8) -> u64
 }
 
 // Each look-up by itself.
-#[unsafe(no_mangle)]
-pub extern "C" fn lookups_apart(contents: &[u64], picks: &[u16]) -> u64
+pub fn lookups_apart(contents: &[u64], picks: &[u16]) -> u64
     ensures { result ≡ summed contents.now picks.now 0 (length picks.now) }
 {
     row(contents, picks, 0)
 }
 
 // Each look-up has to wait for the last.
-#[unsafe(no_mangle)]
-pub extern "C" fn lookups_chained(contents: &[u64], picks: &[u16]) -> u64
+pub fn lookups_chained(contents: &[u64], picks: &[u16]) -> u64
     ensures { result ≡ summed contents.now picks.now 1 (length picks.now) }
 {
     row(contents, picks, 1)

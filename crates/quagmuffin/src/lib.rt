@@ -51,24 +51,21 @@ fn pack_verdict(verdict: Verdict) -> u64
 }
 
 // Judges any bytes.
-#[unsafe(no_mangle)]
-pub extern "C" fn qm_judge(file: &[u8]) -> u64
+pub fn qm_judge(file: &[u8]) -> u64
     ensures { Packed pack_verdict (Judged file.now) result }
 {
     pack_verdict(column::judge(file))
 }
 
 // Fills 4n words of contents and n flip-flop bytes with the state at power-up.
-#[unsafe(no_mangle)]
-pub extern "C" fn qm_power_up(file: &[u8], contents: &mut [u64], flops: &mut [u8]) -> u64
+pub fn qm_power_up(file: &[u8], contents: &mut [u64], flops: &mut [u8]) -> u64
     ensures { Answered (PowersUp file contents flops) result }
 {
     pack_answer(calls::power_up(file, contents, flops))
 }
 
 // Fills 32n value bytes with the settled signals.
-#[unsafe(no_mangle)]
-pub extern "C" fn qm_settle(
+pub fn qm_settle(
     file: &[u8],
     contents: &[u64],
     flops: &[u8],
@@ -81,8 +78,7 @@ pub extern "C" fn qm_settle(
 }
 
 // Fills 32n value bytes with the signals settled before the edge, and moves the contents and the flip-flops.
-#[unsafe(no_mangle)]
-pub extern "C" fn qm_clock(
+pub fn qm_clock(
     file: &[u8],
     contents: &mut [u64],
     flops: &mut [u8],
@@ -110,8 +106,7 @@ fn edit_listed(
 }
 
 // Makes the edits of a list one after another, and recomputes the signals that depend on any of their changes.
-#[unsafe(no_mangle)]
-pub extern "C" fn qm_edit(
+pub fn qm_edit(
     file: &[u8],
     contents: &mut [u64],
     flops: &[u8],
@@ -140,8 +135,7 @@ fn read_body(bytes: &[u8], n: usize, m: usize, body: &mut [u8]) -> Answer
 }
 
 // Reads one slice record, of 127 bytes, of a file of n slices and m outside inputs, into a body of 124 bytes.
-#[unsafe(no_mangle)]
-pub extern "C" fn qm_read_record(bytes: &[u8], n: usize, m: usize, body: &mut [u8]) -> u64
+pub fn qm_read_record(bytes: &[u8], n: usize, m: usize, body: &mut [u8]) -> u64
     ensures { RecordRead bytes.now n m body.old body.new result }
 {
     if body.len() != SLICE_BODY {
@@ -151,8 +145,7 @@ pub extern "C" fn qm_read_record(bytes: &[u8], n: usize, m: usize, body: &mut [u
 }
 
 // Writes the record with a body of 124 bytes into the first 127 bytes of a part of a file of n slices and m outside inputs.
-#[unsafe(no_mangle)]
-pub extern "C" fn qm_write_record(body: &[u8], n: usize, m: usize, part: &mut [u8]) -> u64
+pub fn qm_write_record(body: &[u8], n: usize, m: usize, part: &mut [u8]) -> u64
     ensures { RecordWritten body.now n m part.old part.new result }
 {
     if body.len() != SLICE_BODY {
@@ -223,8 +216,7 @@ fn store_reader(state: &mut [u64], reader: Reader)
 }
 
 // Gives a reader the next run of a file's bytes, and whether no more will come: 0 is "more", else its verdict.
-#[unsafe(no_mangle)]
-pub extern "C" fn qm_feed(state: &mut [u64], store: &mut [u8], run: &[u8], last: u8) -> u64
+pub fn qm_feed(state: &mut [u64], store: &mut [u8], run: &[u8], last: u8) -> u64
     ensures { FeedsWords state.old store.old run.now last result state.new store.new }
 {
     if state.len() != STATE {

@@ -1,6 +1,5 @@
 -- The driver that a pin code names: "a constant, an outside input, or one output of one slice", or none: "a pin it left open".
 use Rattle.std.specs.Prelude.{ℕ, ◌-◌, ◌/◌, ◌%◌, ◌<◌, cond, ◌&&◌, ltb, eqb}
-use Rattle.slicefile.specs.declared.Output.{Output}
 use Rattle.slicefile.specs.declared.Driver.{Driver}
 use Rattle.slicefile.specs.declared.Driver.TheVariants as driver
 use Rattle.slicefile.specs.declared.Decoded.{Decoded}

@@ -78,8 +78,8 @@ pub record TakesRun (r : Reader) (store run : List ℕ) (last : Bool) (fed : Fed
 -- a call, by whether the store has its length, what was said before, and whether no call leaves such a state: another length is 10; "after a
 -- verdict every call gives it again"; such a state is 11; else the run is taken
 abbrev pub FeedsBy : Bool → Reply → Bool → Reader → List ℕ → List ℕ → Bool → Fed → List ℕ → Type 0
-FeedsBy false said out r store run last fed after = Keeps (Given (Refused 10 0)) r store fed after
-FeedsBy true (Given v) out r store run last fed after = Keeps (Given v) r store fed after
+FeedsBy false said strange r store run last fed after = Keeps (Given (Refused 10 0)) r store fed after
+FeedsBy true (Given v) strange r store run last fed after = Keeps (Given v) r store fed after
 FeedsBy true More true r store run last fed after = Keeps (Given (Refused 11 0)) r store fed after
 FeedsBy true More false r store run last fed after = TakesRun r store run last fed after
 

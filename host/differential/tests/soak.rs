@@ -41,7 +41,7 @@ fn wants_a_program() {
     let output = soak(&["1"], Some(Path::new("/no/program")));
     assert_fails(
         &output,
-        "soak: no program at /no/program: run 'rt check judge'",
+        "soak: no program at /no/program: run 'host/rt check judge'",
     );
 }
 

@@ -13,7 +13,7 @@ pub fn find_judge() -> Result<PathBuf, String> {
     match path.exists() {
         true => Ok(path),
         false => Err(format!(
-            "no program at {}: run 'rt check judge', or name one in JUDGE",
+            "no program at {}: run 'host/rt check judge', or name one in JUDGE",
             path.display()
         )),
     }

@@ -24,7 +24,7 @@ const CRATES: &str = "simulator:\nclockruns: simulator\nquagmuffin: simulator\n"
 fn replica(name: &str) -> Replica {
     let folder = Path::new(env!("CARGO_TARGET_TMPDIR")).join(name);
     let texts = [
-        ("bin/rt", RT),
+        ("root/host/rt", RT),
         ("bin/gcc", GCC),
         ("root/crates.txt", CRATES),
         ("root/crates/simulator/src/lib.rt", "one clock\n"),
@@ -81,7 +81,7 @@ fn nothing_is_proved_again_until_the_sources_change() {
 #[test]
 fn fails_in_a_line() {
     for (tool, said) in [
-        ("bin/rt", "rt staticlib clockruns failed"),
+        ("root/host/rt", "host/rt staticlib clockruns failed"),
         ("bin/gcc", "clockruns can't be linked"),
     ] {
         let copy = replica("clocks fails");

@@ -13,7 +13,7 @@ use testkit::command::{assert_fails, assert_writes};
 use testkit::replica::Replica;
 use testkit::run::{judge_path, repository};
 
-/// `rt check judge` that counts its runs and proves two crates.
+/// `host/rt check judge` that counts its runs and proves two crates.
 const RT: &str = "#!/bin/sh
 [ \"$*\" = 'check judge' ] || exit 9
 echo run >> runs
@@ -32,7 +32,7 @@ judge: proved 2 of 2: judge (4 s)
 fn replica(name: &str) -> Replica {
     let layers = "# layers\nbelow:\nbeside: below\njudge: below io # two\n";
     let texts = [
-        ("bin/rt", RT),
+        ("root/host/rt", RT),
         ("root/crates.txt", layers),
         ("root/crates/below/specs/Low.antt", "one"),
         ("root/crates/below/must-fail/wrong.edit", "one"),
@@ -226,7 +226,7 @@ fn without_rt() {
 fn failing_proof() {
     let copy = built("failing");
     let rt = "#!/bin/sh\necho run >> runs\necho 'rt: below NOT PROVED (exit 1, 2 s)'\nexit 1\n";
-    copy.write("bin/rt", rt);
+    copy.write("root/host/rt", rt);
     copy.write("root/crates/below/src/lib.rt", "two");
     for runs in [2, 3] {
         let output = judge(&copy, &[]);
@@ -238,7 +238,7 @@ fn failing_proof() {
             "{said}"
         );
         assert_eq!(lines[1], "judge: below NOT PROVED (exit 1, 2 s)");
-        assert!(lines[2].starts_with("judge: rt check judge failed, so there is no program; "));
+        assert!(lines[2].starts_with("judge: host/rt check judge failed, so there is no program; "));
         assert_eq!((lines.len(), copy.count("runs")), (3, runs));
     }
 }
@@ -248,7 +248,7 @@ fn failing_proof() {
 fn sources_that_change_meanwhile() {
     let copy = replica("meanwhile");
     copy.write(
-        "bin/rt",
+        "root/host/rt",
         &format!("{RT}echo two >> crates/below/specs/Low.antt\n"),
     );
     let output = judge(&copy, &[]);
@@ -261,15 +261,14 @@ fn sources_that_change_meanwhile() {
     assert!(said.ends_with("\njudge: the sources changed while they were proved: run it again\n"));
 }
 
-/// A program that was removed is built anew, though `rt` holds it for proved.
+/// A program that was removed is built anew.
 #[test]
 fn removed_program() {
-    let copy = replica("removed");
-    let stamped = RT.replace("mkdir", "[ -e target/stamp/judge ] || mkdir");
-    copy.write("bin/rt", &stamped);
-    copy.write("root/target/stamp/judge", "");
+    let copy = built("removed");
+    fs::remove_dir_all(copy.root().join("target")).expect("a folder");
     let output = judge(&copy, &[]);
     assert_eq!(String::from_utf8_lossy(&output.stdout), "refused 1 0\n");
+    assert_eq!(copy.count("runs"), 2);
 }
 
 #[test]
@@ -293,7 +292,7 @@ fn programs_without_a_verdict() {
 #[test]
 fn two_at_once() {
     let copy = replica("twice");
-    copy.write("bin/rt", &RT.replace("mkdir", "sleep 0.5; mkdir"));
+    copy.write("root/host/rt", &RT.replace("mkdir", "sleep 0.5; mkdir"));
     let start = || {
         let mut command = copy.command("judge", &[]);
         command.stdout(Stdio::piped()).stderr(Stdio::piped());

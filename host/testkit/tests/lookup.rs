@@ -28,7 +28,7 @@ const CRATES: &str = "lookup:\nlookupmask:\nlookuprows: lookup\nquagmuffin: look
 fn replica(name: &str) -> Replica {
     let folder = Path::new(env!("CARGO_TARGET_TMPDIR")).join(name);
     let texts = [
-        ("bin/rt", RT),
+        ("root/host/rt", RT),
         ("bin/gcc", GCC),
         ("root/crates.txt", CRATES),
         ("root/crates/lookup/src/lib.rt", "lookup shifts\n"),
@@ -97,9 +97,9 @@ fn nothing_is_proved_again_until_the_sources_change() {
 fn fails_in_a_line() {
     for (tool, text, said) in [
         (
-            "bin/rt",
+            "root/host/rt",
             "#!/bin/sh\nexit 1\n",
-            "rt staticlib lookuprows failed",
+            "host/rt staticlib lookuprows failed",
         ),
         (
             "bin/gcc",

@@ -13,7 +13,7 @@ use std::time::{Duration, SystemTime};
 use testkit::command::{assert_fails, assert_says, assert_writes};
 use testkit::replica::Replica;
 
-/// `rt staticlib quagmuffin` that counts its runs and proves two crates.
+/// `host/rt staticlib quagmuffin` that counts its runs and proves two crates.
 const RT: &str = "#!/bin/sh
 [ \"$*\" = 'staticlib quagmuffin' ] || exit 9
 echo run >> proofs
@@ -83,7 +83,7 @@ fn replica(name: &str) -> Replica {
     let layers = "# layers\nbelow:\nbeside: below\nquagmuffin: below io # two\n";
     let texts = [
         ("program", PROGRAM),
-        ("bin/rt", RT),
+        ("root/host/rt", RT),
         ("bin/cargo", CARGO),
         ("root/crates.txt", layers),
         ("root/crates/below/specs/Low.antt", "one"),
@@ -173,7 +173,7 @@ fn says_how_far_it_is() {
 fn hands_on() {
     let copy = replica("handed on");
     let reading = |text: &str| text.replacen("echo", "cat > /dev/null\necho", 1);
-    copy.write("bin/rt", &reading(RT));
+    copy.write("root/host/rt", &reading(RT));
     copy.write("bin/cargo", &reading(CARGO));
     copy.write("here/input", "line\n");
     let run = |words: &[&str]| {
@@ -344,14 +344,14 @@ fn failing_proof() {
     let copy = built("failing proof");
     let rt =
         "#!/bin/sh\necho run >> proofs\necho 'rt: below NOT PROVED (exit 1, 2 s)' >&2\nexit 1\n";
-    copy.write("bin/rt", rt);
+    copy.write("root/host/rt", rt);
     copy.write("root/crates/below/specs/Low.antt", "two");
     let first = PROVING.lines().next().expect("a line");
     let log = log(&copy);
     let lines = format!(
         "{first}\n\
          quagmuffin: below NOT PROVED (exit 1, 2 s)\n\
-         quagmuffin: rt staticlib quagmuffin failed, so there is no program; {log} says why\n"
+         quagmuffin: host/rt staticlib quagmuffin failed, so there is no program; {log} says why\n"
     );
     for proofs in [2, 3] {
         assert_says(&run(&copy, &RUN), 2, &lines);
@@ -418,13 +418,13 @@ fn nothing_to_build_with() {
 fn sources_that_change_meanwhile() {
     let copy = replica("meanwhile");
     let proving = format!("{RT}echo two >> crates/below/specs/Low.antt\n");
-    copy.write("bin/rt", &proving);
+    copy.write("root/host/rt", &proving);
     let changed = "quagmuffin: the sources changed while they were";
     let lines = format!("{PROVING}{changed} proved: run it again\n");
     assert_says(&run(&copy, &RUN), 2, &lines);
     assert_eq!(runs(&copy), (1, 0));
     let building = format!("{CARGO}echo two >> ../low/src/lib.rs\n");
-    copy.write("bin/rt", RT);
+    copy.write("root/host/rt", RT);
     copy.write("bin/cargo", &building);
     let lines = format!("{PROVING}{BUILDING}{changed} built: run it again\n");
     assert_says(&run(&copy, &RUN), 2, &lines);
@@ -458,7 +458,7 @@ fn start(copy: &Replica, name: &str, words: &[&str]) -> Child {
 /// once the other has said its first line, which is given with both.
 fn start_while_proving(copy: &Replica, other: &str, words: &[&str]) -> (String, [Child; 2]) {
     let wait = "until [ -e ../go ]; do sleep 0.02; done; mkdir";
-    copy.write("bin/rt", &RT.replace("mkdir", wait));
+    copy.write("root/host/rt", &RT.replace("mkdir", wait));
     let mut first = start(copy, "quagmuffin", &RUN);
     while copy.count("proofs") == 0 {
         assert!(first.try_wait().expect("the command").is_none());

@@ -69,7 +69,7 @@ fn scripts_without_the_library() {
         assert_writes(&run("--help"), 0, "helps\n");
         let archive = copy.root().join("target/staticlib/libquagmuffin.a");
         let archive = archive.display();
-        let line = format!("{name}: no archive at {archive}: run 'rt staticlib quagmuffin'\n");
+        let line = format!("{name}: no archive at {archive}: run 'host/rt staticlib quagmuffin'\n");
         assert_fails(&run("x"), &line);
     }
 }
@@ -92,6 +92,7 @@ fn gate(name: &str, rt_says: &str) -> (Command, Replica) {
         ("registry/clap-4.0.32/Cargo.toml", ""),
         ("registry/clap_complete-4.0.7/Cargo.toml", ""),
         ("registry/indicatif-0.17.3/Cargo.toml", ""),
+        ("root/host/rt", "#!/bin/sh\n"),
         ("root/quagmuffin", program),
         ("root/host/cli/cargo", &tests("cli")),
     ];
@@ -174,7 +175,7 @@ fn gate_fails() {
         assert_eq!(lines.last().map(String::as_str), Some(sum));
         assert_eq!(status, Some(1));
     }
-    for script in ["root/quagmuffin", "root/host/cli/cargo"] {
+    for script in ["root/host/rt", "root/quagmuffin", "root/host/cli/cargo"] {
         let (mut gate, copy) = gate("gate fails", "5 passed, 0 failed");
         copy.write(script, "#!/bin/sh\necho '3 passed; 0 failed'\nexit 2\n");
         let (lines, status) = lines(&mut gate);
@@ -183,6 +184,17 @@ fn gate_fails() {
             Some("11 passed, 1 failed")
         );
         assert_eq!(status, Some(1));
+    }
+}
+
+/// An edit that can't be tried fails, though `rt ci` passes.
+#[test]
+fn gate_fails_on_a_bad_edit() {
+    for (bad, sum) in [("", "11 passed, 0 failed"), (", 1 bad", "11 passed, 1 failed")] {
+        let says = format!("rt: ok: all; must-fail edits: 3 refused{bad}\n5 passed, 0 failed");
+        let (lines, status) = lines(&mut gate("gate edits", &says).0);
+        assert_eq!(lines.last().map(String::as_str), Some(sum));
+        assert_eq!(status, Some(i32::from(!bad.is_empty())));
     }
 }
 

@@ -7,20 +7,16 @@ use lib.ListN.{length, length-set}
 use Rattle.slicefile.specs.Format.{contents_word}
 use Rattle.column.specs.Clock.{power_up}
 use Rattle.column.specs.File.{slice_body}
-use Rattle.column.proofs.SoundLaws.{SoundFile, sound_file, body_length_lem}
+use Rattle.column.proofs.SoundLaws.{sound_file, body_length_lem}
 use Rattle.slicefile.proofs.Filling.{Filled, filled_next, filled_all}
 use Rattle.calls.proofs.fill_contents.Invariants.{word}
 use Rattle.calls.proofs.fill_contents.Goals as goal
-use Rattle.calls.proofs.fill_contents.Goals.{Start}
-
-fine : (c : Start) → SoundFile c.args.file.now c.args.n c.args.m
-fine c = sound_file c.args.file.now c.requires.0
 
 pub loop-t-init : goal.loop-t-init
 loop-t-init c = (search rules, c.requires.1, λ i l. absurd (omega arith))
 
 pub overflow_mul-n : goal.overflow_mul-n
-overflow_mul-n c = omega (arith, (fine c.before.before.before.before).slices_fit)
+overflow_mul-n c = omega (arith, (sound_file c.args.file.now c.requires.0).slices_fit)
 
 pub slice_body-body-requires : goal.slice_body-body-requires
 slice_body-body-requires c = (c.requires.0, omega arith)
@@ -28,7 +24,7 @@ slice_body-body-requires c = (c.requires.0, omega arith)
 pub contents_word-requires : goal.contents_word-requires
 contents_word-requires c =
     let b = c in
-    (omega (arith, ap length c.slice_body-body.ensures, body_length_lem b.args.file.now (fine b) (c.loop-t.t / 4) (omega arith)), omega arith)
+    (omega (arith, ap length c.slice_body-body.ensures, body_length_lem b.args.file.now (sound_file b.args.file.now b.requires.0) (c.loop-t.t / 4) (omega arith)), omega arith)
 
 pub bounds-contents-t : goal.bounds-contents-t
 bounds-contents-t c = omega (arith, c.loop-t.invariant.1)
@@ -49,4 +45,4 @@ returns c =
     let at = c.loop-t in
     let b = c in
     let e : at.t ≡ 4 * b.args.n = omega arith in
-    rw (fine b).count (filled_all (word b.args.file.now) (4 * b.args.n) at.contents at.invariant.1 (rw e at at.invariant.2))
+    rw (sound_file b.args.file.now b.requires.0).count (filled_all (word b.args.file.now) (4 * b.args.n) at.contents at.invariant.1 (rw e at at.invariant.2))

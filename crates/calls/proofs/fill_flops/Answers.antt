@@ -7,14 +7,10 @@ use lib.ListN.{length, length-set}
 use Rattle.slicefile.specs.Format.{power_up_bits}
 use Rattle.column.specs.Clock.{power_up}
 use Rattle.column.specs.File.{slice_body}
-use Rattle.column.proofs.SoundLaws.{SoundFile, sound_file, body_length_lem}
+use Rattle.column.proofs.SoundLaws.{sound_file, body_length_lem}
 use Rattle.slicefile.proofs.Filling.{Filled, filled_next, filled_all}
 use Rattle.calls.proofs.fill_flops.Invariants.{bits}
 use Rattle.calls.proofs.fill_flops.Goals as goal
-use Rattle.calls.proofs.fill_flops.Goals.{Start}
-
-fine : (c : Start) → SoundFile c.args.file.now c.args.n c.args.m
-fine c = sound_file c.args.file.now c.requires.0
 
 pub loop-s-init : goal.loop-s-init
 loop-s-init c = (search rules, c.requires.1, λ i l. absurd (omega arith))
@@ -26,7 +22,7 @@ pub bounds-body-59 : goal.bounds-body-59
 bounds-body-59 c =
     let k = c in
     let b = k in
-    omega (arith, ap length k.slice_body-body.ensures, body_length_lem b.args.file.now (fine b) k.loop-s.s (search rules))
+    omega (arith, ap length k.slice_body-body.ensures, body_length_lem b.args.file.now (sound_file b.args.file.now b.requires.0) k.loop-s.s (search rules))
 
 pub bounds-flops-s : goal.bounds-flops-s
 bounds-flops-s c = omega (arith, c.loop-s.invariant.1)
@@ -46,4 +42,4 @@ returns c =
     let at = c.loop-s in
     let b = c in
     let e : at.s ≡ b.args.n = omega arith in
-    rw (fine b).count (filled_all (bits b.args.file.now) b.args.n at.flops at.invariant.1 (rw e at at.invariant.2))
+    rw (sound_file b.args.file.now b.requires.0).count (filled_all (bits b.args.file.now) b.args.n at.flops at.invariant.1 (rw e at at.invariant.2))

@@ -5,7 +5,7 @@ use Rattle.calls.proofs.Calls.{handed_on}
 use Rattle.calls.proofs.power_up.Goals as goal
 
 pub returns-in_default : goal.returns-in_default
-returns-in_default c = handed_on _ _ c.enum_told-1.given.1 c.judge-v.ensures c.refusal.ensures refl
+returns-in_default c = handed_on _ _ c.in_default.is c.judge-v.ensures c.refusal.ensures refl
 
 pub power_up_accepted-requires : goal.power_up_accepted-requires
-power_up_accepted-requires c = rw c.v-1.given.1 at c.judge-v.ensures
+power_up_accepted-requires c = rw c.in-Accepted.is at c.judge-v.ensures

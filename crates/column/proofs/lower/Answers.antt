@@ -1,10 +1,6 @@
-use mathlib.Core.Path.{◌≡◌, ◌∙◌, sym}
-use Prim.Native.Nat.{◌*◌, ◌-◌, ◌≤◌}
+use mathlib.Core.Path.{◌∙◌, sym}
 use native.Mathlib.Omega.{arith}
 use borrow.Author.Rules.{rules}
-use lib.ListN.{length}
-use Rattle.netlist.specs.Table.{slice_signals, table_length}
-use Rattle.column.specs.Compile.{LoweredTo}
 use Rattle.column.proofs.lower.Goals as goal
 
 pub loop-s-init : goal.loop-s-init
@@ -12,13 +8,11 @@ loop-s-init c = (search rules, c.requires.1, λ x i l h. absurd (omega arith))
 
 pub lower_slice-requires : goal.lower_slice-requires
 lower_slice-requires c =
-    let l = c.loop-s in
-    ((c.requires.0, omega arith, l.invariant.1), l.invariant.2)
+    let l = c.loop-s.invariant in
+    record { sound = (c.requires.0, omega arith, l.1); lowered_to = l.2 }
 
 pub loop-s-preserved : goal.loop-s-preserved
-loop-s-preserved c =
-    let k = c in
-    (search rules, k.lower_slice.auto.1.1.1.1.0 ∙ k.loop-s.invariant.1, λ x i l h. k.lower_slice.ensures x i (omega arith) h)
+loop-s-preserved c = (search rules, c.lower_slice.auto.table ∙ c.loop-s.invariant.1, λ x i l h. c.lower_slice.ensures x i (omega arith) h)
 
 pub shape_of-table : goal.shape_of-table
 shape_of-table c = c.loop-s.invariant.1 ∙ sym c.requires.1

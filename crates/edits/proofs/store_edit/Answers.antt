@@ -1,53 +1,51 @@
 -- `edits::store_edit` meets its contract, by the kind. Assumes nothing.
-use Prim.Native.Nat.{◌<◌}
+use Prim.Native.Nat.{ℕ, ◌<◌}
+use mathlib.Core.Path.{◌≡◌}
 use native.Mathlib.Omega.{arith}
 use borrow.Author.Rules.{rules}
 use borrow.Author.Tests.{ne_eqb}
 use lib.ListN.{length}
 use Rattle.netlist.specs.Changes.{OfInput, OfContents}
+use Rattle.editlist.specs.Listed.{edit}
+use Rattle.edits.specs.Edits.{change_of}
 use Rattle.edits.specs.Storing.{Storable}
 use Rattle.edits.proofs.Storing.{input_stored, contents_stored}
 use Rattle.edits.proofs.store_edit.Goals as goal
-use Rattle.edits.proofs.store_edit.Goals.{Else-kind-eq0, Then-kind-eq0}
 
 -- the input is there, and so is its mark
-there : (c : Then-kind-eq0) → let a = c.args in Storable (length a.contents.now) (length a.inputs.now) (OfInput a.number a.value)
-there c = rw c.if-kind-eq0.true at c.requires.storable
-
-input-marked : (c : Then-kind-eq0) → let a = c.args in a.number < length a.changed.now
-input-marked c = omega (arith, (there c).0, c.requires.marks.0)
+input_there :
+    (tables inputs kind number value : ℕ) → kind ≡ 0 → Storable tables inputs (change_of (edit kind number value)) → Storable tables inputs (OfInput number value)
+input_there tables inputs kind number value e h = rw e at h
 
 -- the table is there, and so is its mark
-table-there : (c : Else-kind-eq0) → let a = c.args in Storable (length a.contents.now) (length a.inputs.now) (OfContents a.number a.value)
-table-there c = rw (ne_eqb c.args.kind 0 c.if-kind-eq0.false) at c.requires.storable
-
-table-marked : (c : Else-kind-eq0) → let a = c.args in a.number < length a.edited.now
-table-marked c = omega (arith, table-there c, c.requires.marks.1)
+table_there :
+    (tables inputs kind number value : ℕ) → (kind ≡ 0 → ⊥) → Storable tables inputs (change_of (edit kind number value)) → Storable tables inputs (OfContents number value)
+table_there tables inputs kind number value e h = rw (ne_eqb kind 0 e) at h
 
 pub overflow_cast-inputs : goal.overflow_cast-inputs
-overflow_cast-inputs c = let h = (there c).1 in search rules
+overflow_cast-inputs c = let h = (input_there _ _ _ _ _ c.if-kind-eq0.true c.requires.storable).1 in search rules
 
 pub bounds-inputs-at : goal.bounds-inputs-at
-bounds-inputs-at c = (there c).0
+bounds-inputs-at c = (input_there _ _ _ _ _ c.if-kind-eq0.true c.requires.storable).0
 
 pub bounds-changed-at : goal.bounds-changed-at
-bounds-changed-at c = input-marked c
+bounds-changed-at c = omega (arith, (input_there _ _ _ _ _ c.if-kind-eq0.true c.requires.storable).0, c.requires.marks.0)
 
 pub offset_bounds-contents-at : goal.offset_bounds-contents-at
-offset_bounds-contents-at c = let h = table-there c in search rules
+offset_bounds-contents-at c = let h = table_there _ _ _ _ _ c.if-kind-eq0.false c.requires.storable in search rules
 
 pub bounds-contents-at : goal.bounds-contents-at
-bounds-contents-at c = table-there c
+bounds-contents-at c = table_there _ _ _ _ _ c.if-kind-eq0.false c.requires.storable
 
 pub bounds-edited-at : goal.bounds-edited-at
-bounds-edited-at c = table-marked c
+bounds-edited-at c = omega (arith, table_there _ _ _ _ _ c.if-kind-eq0.false c.requires.storable, c.requires.marks.1)
 
 pub returns-then-kind-eq0 : goal.returns-then-kind-eq0
 returns-then-kind-eq0 c =
     let a = c.args in
-    rw c.if-kind-eq0.true (input_stored a.contents.now a.inputs.now a.changed.now a.edited.now a.number a.value (input-marked c))
+    rw c.if-kind-eq0.true (input_stored a.contents.now a.inputs.now a.changed.now a.edited.now a.number a.value (omega (arith, (input_there _ _ _ _ _ c.if-kind-eq0.true c.requires.storable).0, c.requires.marks.0)))
 
 pub returns-else-kind-eq0 : goal.returns-else-kind-eq0
 returns-else-kind-eq0 c =
     let a = c.args in
-    rw (ne_eqb a.kind 0 c.if-kind-eq0.false) (contents_stored a.contents.now a.inputs.now a.changed.now a.edited.now a.number a.value (table-marked c))
+    rw (ne_eqb a.kind 0 c.if-kind-eq0.false) (contents_stored a.contents.now a.inputs.now a.changed.now a.edited.now a.number a.value (omega (arith, table_there _ _ _ _ _ c.if-kind-eq0.false c.requires.storable, c.requires.marks.1)))

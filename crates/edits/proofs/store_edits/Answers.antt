@@ -4,11 +4,6 @@ use borrow.Author.Rules.{rules}
 use Rattle.edits.specs.Storing.{store}
 use Rattle.edits.proofs.Storing.{Before, before_first, next_there, before_next, before_end}
 use Rattle.edits.proofs.store_edits.Goals as goal
-use Rattle.edits.proofs.store_edits.Goals.{At-loop-i, Start}
-
--- where it began
-abbrev start : At-loop-i → Start
-start l = l.before.before.before.before.before.before
 
 pub loop-i-init : goal.loop-i-init
 loop-i-init c =
@@ -17,19 +12,21 @@ loop-i-init c =
 
 pub store_edit-requires : goal.store_edit-requires
 store_edit-requires c =
-    let l = c in
-    let a = (start l).args in
-    let same = l.loop-i.invariant.1.same in
-    let marks = (start l).requires.marks in
-    (next_there a.words.now a.count _ l.loop-i.i l.loop-i.invariant.1 (search rules), (omega (arith, same.inputs, same.changed, marks.0), omega (arith, same.contents, same.edited, marks.1)))
+    let at = c.loop-i in
+    let same = at.invariant.1.same in
+    let marks = c.requires.marks in
+    record {
+      storable = next_there c.args.words.now c.args.count _ at.i at.invariant.1 (search rules);
+      marks = (omega (arith, same.inputs, same.changed, marks.0), omega (arith, same.contents, same.edited, marks.1));
+    }
 
 pub loop-i-preserved : goal.loop-i-preserved
-loop-i-preserved c =
-    let l = c in
-    let a = (start l).args in
-    (search rules, before_next a.words.now a.count _ l.loop-i.i l.loop-i.invariant.1 (search rules) (record { contents = search rules; inputs = search rules; changed = search rules; edited = search rules }) c.store_edit.ensures)
+loop-i-preserved c = (
+  search rules,
+  before_next c.args.words.now c.args.count _ c.loop-i.i c.loop-i.invariant.1 (search rules)
+      (record { contents = search rules; inputs = search rules; changed = search rules; edited = search rules })
+      c.store_edit.ensures,
+)
 
 pub returns : goal.returns
-returns c =
-    let a = (start c.before.before).args in
-    before_end a.words.now a.count _ c.loop-i.i c.loop-i.invariant.1 (search rules)
+returns c = before_end c.args.words.now c.args.count _ c.loop-i.i c.loop-i.invariant.1 (search rules)

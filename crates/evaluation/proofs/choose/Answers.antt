@@ -1,6 +1,5 @@
 -- `evaluation::choose` meets its contract. Assumes nothing.
 use mathlib.Core.Path.{sym}
-use borrow.Author.Rules.{rules}
 use Rattle.evaluation.proofs.Gates.{choose_other}
 use Rattle.evaluation.proofs.choose.Goals as goal
 

@@ -2,13 +2,7 @@
 -- Assumes nothing.
 use mathlib.Core.Path.{◌≡◌}
 use Prim.Native.Nat.{◌+◌, ◌-◌, ◌^◌, ◌≤◌, ◌<◌}
-use native.Mathlib.Nat.{lt_of_lt_of_le}
-use native.Mathlib.Omega.{arith}
-use borrow.Author.Rules.{rules}
-use lib.Dec.{lit<}
-use lib.Pow.{pow_mono}
 use Rattle.evaluation.specs.Numbers.{number_on}
-use Rattle.evaluation.proofs.Numbers.{number_more, small_more}
 use Rattle.evaluation.proofs.number_on.Given as goal
 
 abbrev pub invariant-loop-j : goal.invariant-loop-j

@@ -1,6 +1,5 @@
 -- `evaluation::wire` meets its contract. Assumes nothing.
 use mathlib.Core.Path.{refl}
-use borrow.Author.Rules.{rules}
 use Rattle.evaluation.proofs.wire.Goals as goal
 
 pub returns : goal.returns

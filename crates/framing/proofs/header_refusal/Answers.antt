@@ -22,12 +22,12 @@ returns-then-tag-due c = search (rules, le-ltb, c.if-not-known.false, ne_eqb)
 
 pub returns-then-told-len : goal.returns-then-told-len
 unfolding header_refusal
-returns-then-told-len c = search (rules, le-ltb, c.if-not-known.false, eq-eqb, ne_eqb, ← c.body_length_lem.ensures, ← c.pair_at-told.ensures)
+returns-then-told-len c = search (rules, le-ltb, c.if-not-known.false, eq-eqb, ne_eqb, ← c.body_length-len.ensures, ← c.pair_at-told.ensures)
 
 pub returns-then-s-len : goal.returns-then-s-len
 unfolding header_refusal
-returns-then-s-len c = search (rules, le-ltb, lt-ltb, c.if-not-known.false, eq-eqb, ← c.body_length_lem.ensures, ← c.pair_at-told.ensures)
+returns-then-s-len c = search (rules, le-ltb, lt-ltb, c.if-not-known.false, eq-eqb, ← c.body_length-len.ensures, ← c.pair_at-told.ensures)
 
 pub returns : goal.returns
 unfolding header_refusal
-returns c = search (rules, le-ltb, c.if-not-known.false, eq-eqb, ← c.body_length_lem.ensures, ← c.pair_at-told.ensures)
+returns c = search (rules, le-ltb, c.if-not-known.false, eq-eqb, ← c.body_length-len.ensures, ← c.pair_at-told.ensures)

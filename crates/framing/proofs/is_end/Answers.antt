@@ -1,7 +1,6 @@
 -- `framing::is_end` meets its contract. Assumes nothing.
 use mathlib.Core.Path.{sym}
 use mathlib.Core.Bool.{true≢false}
-use borrow.Author.Rules.{rules}
 use Rattle.framing.proofs.EndLaws.{no_end, end_test}
 use Rattle.framing.proofs.is_end.Goals as goal
 

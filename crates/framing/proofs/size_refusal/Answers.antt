@@ -1,18 +1,18 @@
 -- `framing::size_refusal` meets its contract: a header that is not refused is followed by the two numbers. Assumes nothing.
 use mathlib.Core.Path.{◌∙◌, sym}
-use Prim.Native.Nat.{◌≤◌}
+use mathlib.Core.List.{List}
+use mathlib.Core.Path.{◌≡◌}
+use Prim.Native.Nat.{ℕ, ◌≤◌}
 use native.Mathlib.Omega.{arith}
 use lib.ListN.{length}
 use Rattle.slicefile.specs.Format.{size_tag, record_length}
-use Rattle.framing.specs.Framing.{size_refusal}
+use Rattle.framing.specs.Framing.{header_refusal, size_refusal}
 use Rattle.rules.proofs.Refusals.{or_else_first}
 use Rattle.framing.proofs.RecordLaws.{header_whole}
-use borrow.Author.Rules.{rules}
 use Rattle.framing.proofs.size_refusal.Goals as goal
-use Rattle.framing.proofs.size_refusal.Goals.{Else-h-ne0}
 
-whole : (c : Else-h-ne0) → record_length size_tag ≤ length c.args.s.now
-whole c = header_whole size_tag c.args.s.now (sym c.header_refusal-h.ensures ∙ c.if-h-ne0.false)
+whole : {h : ℕ} (s : List ℕ) → h ≡ header_refusal size_tag s → h ≡ 0 → record_length size_tag ≤ length s
+whole s e z = header_whole size_tag s (sym e ∙ z)
 
 pub returns-then-h-ne0 : goal.returns-then-h-ne0
 unfolding size_refusal
@@ -21,13 +21,13 @@ returns-then-h-ne0 c =
     e ∙ or_else_first _ _ (λ z. c.if-h-ne0.true (e ∙ z))
 
 pub bounds-s-3 : goal.bounds-s-3
-bounds-s-3 c = omega (arith, whole c.before.before)
+bounds-s-3 c = omega (arith, whole _ c.header_refusal-h.ensures c.if-h-ne0.false)
 
 pub overflow_cast-n : goal.overflow_cast-n
 overflow_cast-n c = omega (arith, c.type_inv.s 3)
 
 pub bounds-s-4 : goal.bounds-s-4
-bounds-s-4 c = omega (arith, whole c.before.before.before)
+bounds-s-4 c = omega (arith, whole _ c.header_refusal-h.ensures c.if-h-ne0.false)
 
 pub overflow_cast-m : goal.overflow_cast-m
 overflow_cast-m c = omega (arith, c.type_inv.s 4)

@@ -4,13 +4,11 @@ use mathlib.Core.List.{List, [], ◌∷◌}
 use Prim.Native.Nat.{ℕ, suc, ◌+◌, ◌*◌, ◌<◌}
 use native.Mathlib.Omega.{arith}
 use mir.Syntax.{w16}
-use borrow.Author.Rules.{rules}
 use borrow.Kind.Array.{e_int, good_length}
 use lib.Dec.{lit<}
 use lib.ListN.{length, get_or, drop, length-set, drop_of_length-le}
 use lib.Seq.{sets, drop-cons}
 use Rattle.netlist.specs.Table.{row_length}
-use lib.ListN.{length-set}
 use Rattle.netlist.proofs.put_row.Goals as goal
 
 -- a row is its seven numbers

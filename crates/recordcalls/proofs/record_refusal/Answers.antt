@@ -4,16 +4,10 @@ use native.Mathlib.Omega.{arith}
 use borrow.Author.Rules.{rules}
 use borrow.Author.Tests.{lt-ltb, le-ltb}
 use Rattle.slicefile.specs.Format.{slice_tag}
-use Rattle.framing.specs.Framing.{header_refusal}
 use Rattle.rules.proofs.Refusals.{or_else_first}
 use Rattle.framing.proofs.RecordLaws.{header_whole}
 use Rattle.recordcalls.specs.Calls.{record_refusal}
 use Rattle.recordcalls.proofs.record_refusal.Goals as goal
-use Rattle.recordcalls.proofs.record_refusal.Goals.{Else-h-ne0}
-
--- the header is not refused
-accepted : (c : Else-h-ne0) → header_refusal slice_tag c.args.s.now ≡ 0
-accepted c = sym c.header_refusal-h.ensures ∙ c.if-h-ne0.false
 
 pub returns-then-h-ne0 : goal.returns-then-h-ne0
 unfolding record_refusal
@@ -21,13 +15,16 @@ returns-then-h-ne0 c =
     let e = c.header_refusal-h.ensures in
     e ∙ or_else_first _ _ (λ z. c.if-h-ne0.true (e ∙ z))
 
+pub slice_bounds-body-end : goal.slice_bounds-body-end
+slice_bounds-body-end c = omega (arith, header_whole slice_tag c.args.s.now (sym c.header_refusal-h.ensures ∙ c.if-h-ne0.false))
+
 pub overflow_cast-number : goal.overflow_cast-number
 overflow_cast-number c = omega (arith, c.type_inv.body 0)
 
 pub returns-then-n-number : goal.returns-then-n-number
 unfolding record_refusal
-returns-then-n-number c = simp (accepted c.before.before.before.before, le-ltb _ _ c.if-n-number.true)
+returns-then-n-number c = simp (sym c.header_refusal-h.ensures ∙ c.if-h-ne0.false, le-ltb _ _ c.if-n-number.true)
 
 pub returns : goal.returns
 unfolding record_refusal
-returns c = c.body_refusal.ensures ∙ sym (simp (accepted c.before.before.before.before.before, lt-ltb _ _ c.if-n-number.false))
+returns c = c.body_refusal.ensures ∙ sym (simp (sym c.header_refusal-h.ensures ∙ c.if-h-ne0.false, lt-ltb _ _ c.if-n-number.false))

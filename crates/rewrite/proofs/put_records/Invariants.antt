@@ -15,7 +15,7 @@ use Rattle.rewrite.proofs.Rewriting.{size_next, slice_next, end_next, record_rea
 use Rattle.rewrite.proofs.put_records.Given as goal
 
 abbrev pub invariant-loop-s : goal.invariant-loop-s
-invariant-loop-s l = (l.at ≤ l.n) × (at ≡ record_start l.file l.at) × (length l.s ≡ length l.file) × (take at l.s ≡ take at l.file)
+invariant-loop-s l = (l.s ≤ l.n) × (l.at ≡ record_start l.file l.s) × (length l.out ≡ length l.file) × (take l.at l.out ≡ take l.at l.file)
 
 abbrev pub decreases-loop-s : goal.decreases-loop-s
-decreases-loop-s l = l.n - l.at
+decreases-loop-s l = l.n - l.s

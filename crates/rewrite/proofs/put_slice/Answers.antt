@@ -8,9 +8,6 @@ use Rattle.rewrite.proofs.put_slice.Goals as goal
 
 pub returns : goal.returns
 returns c =
-    let w = c in
-    let k = w in
-    let b = k in
-    w.write_record.ensures.1
-    ∙ ap (λ (r : Reading). written r.slice b.args.n b.args.m b.args.part.now) k.read_record-reading.ensures
-    ∙ (write_read b.args.bytes.now b.args.n b.args.m b.args.part.now (λ i. (k.type_inv.bytes i).fits) b.requires.0 b.requires.1).1
+    c.write_record.ensures.1
+    ∙ ap (λ (r : Reading). written r.slice c.args.n c.args.m c.args.part.now) c.read_record-reading.ensures
+    ∙ (write_read c.args.bytes.now c.args.n c.args.m c.args.part.now (λ i. (c.type_inv.bytes i).fits) c.requires.0 c.requires.1).1

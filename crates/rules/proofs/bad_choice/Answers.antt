@@ -1,9 +1,8 @@
 use mathlib.Core.Path.{◌≡◌}
-use Prim.Native.Nat.{◌≤◌, ◌-◌}
 use native.Mathlib.Omega.{arith}
 use borrow.Author.Rules.{rules}
 use Rattle.slicefile.specs.Lists.{any_below}
-use Rattle.rules.specs.Rules.{letter_choice, bad_choice}
+use Rattle.rules.specs.Rules.{bad_choice}
 use Rattle.slicefile.proofs.Tests.{any_next}
 use Rattle.rules.proofs.bad_choice.Goals as goal
 

@@ -1,11 +1,8 @@
 -- `rules::bad_choice` meets its contract. The loop's invariant: `letters` says whether a letter before l has a bad choice. Assumes nothing.
 use mathlib.Core.Path.{◌≡◌}
 use Prim.Native.Nat.{◌≤◌, ◌-◌}
-use native.Mathlib.Omega.{arith}
-use borrow.Author.Rules.{rules}
 use Rattle.slicefile.specs.Lists.{any_below}
-use Rattle.rules.specs.Rules.{letter_choice, bad_choice}
-use Rattle.slicefile.proofs.Tests.{any_next}
+use Rattle.rules.specs.Rules.{letter_choice}
 use Rattle.rules.proofs.bad_choice.Given as goal
 
 abbrev pub invariant-loop-l : goal.invariant-loop-l

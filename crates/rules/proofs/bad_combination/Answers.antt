@@ -1,9 +1,8 @@
 use mathlib.Core.Path.{◌≡◌, refl}
-use Prim.Native.Nat.{◌≤◌, ◌-◌}
 use native.Mathlib.Omega.{arith}
 use borrow.Author.Rules.{rules}
 use Rattle.slicefile.specs.Lists.{any_below}
-use Rattle.rules.specs.Rules.{mode_is, letter_combination, bad_combination}
+use Rattle.rules.specs.Rules.{bad_combination}
 use Rattle.slicefile.proofs.Tests.{any_next}
 use Rattle.rules.proofs.bad_combination.Goals as goal
 

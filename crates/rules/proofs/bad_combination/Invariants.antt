@@ -1,11 +1,8 @@
 -- `rules::bad_combination` meets its contract. The loop's invariant: each flag says whether a letter before l passes its test. Assumes nothing.
-use mathlib.Core.Path.{◌≡◌, refl}
+use mathlib.Core.Path.{◌≡◌}
 use Prim.Native.Nat.{◌≤◌, ◌-◌}
-use native.Mathlib.Omega.{arith}
-use borrow.Author.Rules.{rules}
 use Rattle.slicefile.specs.Lists.{any_below}
-use Rattle.rules.specs.Rules.{mode_is, letter_combination, bad_combination}
-use Rattle.slicefile.proofs.Tests.{any_next}
+use Rattle.rules.specs.Rules.{mode_is, letter_combination}
 use Rattle.rules.proofs.bad_combination.Given as goal
 
 abbrev pub invariant-loop-l : goal.invariant-loop-l

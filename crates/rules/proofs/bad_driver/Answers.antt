@@ -1,15 +1,12 @@
 use mathlib.Core.Path.{◌≡◌, ◌∙◌, refl, ap}
-use mathlib.Core.Bool.{Bool}
-use mathlib.Core.List.{List}
-use Prim.Native.Nat.{ℕ, ◌≤◌, ◌-◌}
+use Prim.Native.Nat.{ℕ}
 use native.Mathlib.Omega.{arith}
 use borrow.Author.Rules.{rules}
 use Rattle.slicefile.specs.Lists.{any_below}
-use Rattle.slicefile.specs.Format.{pin_count, pin_code}
+use Rattle.slicefile.specs.Format.{pin_count}
 use Rattle.slicefile.specs.Driver.{driver_of}
 use Rattle.rules.specs.Rules.{missing, bad_driver}
 use Rattle.slicefile.proofs.Tests.{any_next}
-use Rattle.rules.proofs.bad_driver.Invariants.{undriven}
 use Rattle.rules.proofs.bad_driver.Goals as goal
 
 pub loop-p-init : goal.loop-p-init

@@ -1,7 +1,6 @@
 -- `rules::body_refusal` meets its contract: each `return` is the first refusal whose test passes. Assumes nothing.
 use borrow.Author.Tests.{eq-eqb, ne_eqb}
 use native.Mathlib.Omega.{arith}
-use borrow.Author.Rules.{rules}
 use Rattle.rules.specs.Rules.{body_refusal}
 use Rattle.rules.proofs.body_refusal.Goals as goal
 

@@ -3,34 +3,29 @@ use mathlib.Core.Path.{refl}
 use borrow.Author.Rules.{rules}
 use Rattle.plan.proofs.Plans.{parts_walk, parts_edges, parts_clocked}
 use Rattle.simulator.proofs.clock_by.Goals as goal
-use Rattle.simulator.proofs.clock_by.Goals.{After-table-table, Start}
-
-abbrev start : After-table-table → Start
-start t = t.before.before.before.before.before.before.before
 
 pub settle_by-requires : goal.settle_by-requires
 settle_by-requires c =
-    let o = c in
-    let t = o in
-    let b = start t in
-    ((parts_walk b.requires.runnable.0 t.table-table.ensures o.order-order.ensures refl, b.requires.contents_len.1, b.requires.contents_len.2), (b.requires.runnable.1, b.requires.bits.0, b.requires.bits.1))
+    let q = c.requires in
+    record {
+      walkable = (parts_walk q.runnable.0 c.table-table.ensures c.order-order.ensures refl, q.contents_len.1, q.contents_len.2);
+      wires_len = (q.runnable.1, q.bits.0, q.bits.1);
+    }
 
 pub move_all-requires : goal.move_all-requires
 move_all-requires c =
-    let e = c in
-    let s = e in
-    let b = start s.before.before.before.before.before.before in
-    ((b.requires.runnable.0.few, parts_edges b.requires.runnable.0 e.edges-edges.ensures s.settle_by.ensures.are_wires), (b.requires.contents_len.0, b.requires.contents_len.1))
+    let q = c.requires in
+    record {
+      n_le_slice_limit = (q.runnable.0.few, parts_edges q.runnable.0 c.edges-edges.ensures c.settle_by.ensures.are_wires);
+      contents_len = (q.contents_len.0, q.contents_len.1);
+    }
 
 pub returns : goal.returns
 returns c =
-    let k = c in
-    let e = k in
-    let s = e in
-    let t = s in
-    let w = s.settle_by.ensures in
+    let a = c.args in
+    let w = c.settle_by.ensures in
     record {
-      settled = rw t.table-table.ensures at w.settled;
-      moves = parts_clocked (start t).args.plan.now (start t).args.contents.now (start t).args.flops.now e.edges-edges.ensures w.are_wires w.on_inputs w.on_values k.move_all.ensures.contents_value k.move_all.ensures.flops_value;
+      settled = rw c.table-table.ensures at w.settled;
+      moves = parts_clocked a.plan.now a.contents.now a.flops.now c.edges-edges.ensures w.are_wires w.on_inputs w.on_values c.move_all.ensures.contents_value c.move_all.ensures.flops_value;
       bits = w.are_wires.bits;
     }

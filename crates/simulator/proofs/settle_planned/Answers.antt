@@ -6,34 +6,25 @@ use Rattle.buffers.proofs.Passed.{settle_passed}
 use Rattle.plan.proofs.Plans.{edges_long, parts_walk}
 use Rattle.calls.specs.Calls.{carried_out}
 use Rattle.calls.proofs.Calls.{turned_by}
-use Rattle.simulator.specs.Running.{plan_refusal}
-use Rattle.column.specs.Clock.{state_of}
 use Rattle.simulator.proofs.settle_planned.Goals as goal
-use Rattle.simulator.proofs.settle_planned.Goals.{After-settle_refusal-number}
-
--- the refusal by the plan
-refusal : (k : After-settle_refusal-number) → let a = k.args in
-    k.settle_refusal-number.result ≡ plan_refusal a.plan.now a.n a.m (state_of a.contents.now a.flops.now) a.inputs.now a.values.now
-refusal k = rw k.edges-edges.ensures at k.settle_refusal-number.ensures
 
 pub settle_refusal-number-requires : goal.settle_refusal-number-requires
-settle_refusal-number-requires c = let b = c in (b.requires.0.few, edges_long b.requires.0 c.edges-edges.ensures)
+settle_refusal-number-requires c = (c.requires.0.few, edges_long c.requires.0 c.edges-edges.ensures)
 
 pub returns-then-number-ne0 : goal.returns-then-number-ne0
-returns-then-number-ne0 c = turned_by _ (refusal c.before.before) c.if-number-ne0.true refl
+returns-then-number-ne0 c = turned_by _ (rw c.edges-edges.ensures at c.settle_refusal-number.ensures) c.if-number-ne0.true refl
 
 pub settle_by-requires : goal.settle_by-requires
 settle_by-requires c =
-    let t = c in
-    let k = t in
-    let b = k in
-    let p = settle_passed _ _ _ _ _ _ (sym (refusal k) ∙ t.if-number-ne0.false) in
+    let e = rw c.edges-edges.ensures at c.settle_refusal-number.ensures in
+    let p = settle_passed _ _ _ _ _ _ (sym e ∙ c.if-number-ne0.false) in
     let l = p.0 in
-    ((parts_walk b.requires.0 t.table-table.ensures c.order-order.ensures l.inputs, l.flops, l.values), (b.requires.1 ∙ ap (wire_count b.args.n) (sym l.inputs), p.1, b.requires.2))
+    record {
+      walkable = (parts_walk c.requires.0 c.table-table.ensures c.order-order.ensures l.inputs, l.flops, l.values);
+      wires_len = (c.requires.1 ∙ ap (wire_count c.args.n) (sym l.inputs), p.1, c.requires.2);
+    }
 
 pub returns : goal.returns
 returns c =
-    let s = c in
-    let t = s in
-    let k = t in
-    carried_out (sym (refusal k) ∙ t.if-number-ne0.false) (rw t.table-table.ensures at s.settle_by.ensures.settled)
+    let e = rw c.edges-edges.ensures at c.settle_refusal-number.ensures in
+    carried_out (sym e ∙ c.if-number-ne0.false) (rw c.table-table.ensures at c.settle_by.ensures.settled)

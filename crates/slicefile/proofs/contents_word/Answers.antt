@@ -1,9 +1,7 @@
 use mathlib.Core.Path.{◌≡◌, ◌∙◌, sym, ap₂}
-use Prim.Native.Nat.{ℕ, ◌+◌, ◌*◌, ◌≤◌, ◌<◌, ◌-◌, ◌^◌}
+use Prim.Native.Nat.{ℕ, ◌+◌, ◌*◌, ◌<◌, ◌-◌}
 use native.Mathlib.Omega.{arith}
 use borrow.Author.Rules.{rules}
-use lib.ListN.{take, drop}
-use Rattle.slicefile.specs.Lists.{digits}
 use Rattle.slicefile.proofs.Words.{word_step, word_bound, word_small}
 use Rattle.slicefile.proofs.contents_word.Goals as goal
 use Rattle.slicefile.proofs.contents_word.Goals.{After-wide}

@@ -1,11 +1,8 @@
 -- `slicefile::contents_word` meets its contract. The loop's invariant: w is the number on the bytes from i on. Assumes nothing.
-use mathlib.Core.Path.{◌≡◌, ◌∙◌, sym, ap₂}
-use Prim.Native.Nat.{ℕ, ◌+◌, ◌*◌, ◌≤◌, ◌<◌, ◌-◌, ◌^◌}
-use native.Mathlib.Omega.{arith}
-use borrow.Author.Rules.{rules}
+use mathlib.Core.Path.{◌≡◌}
+use Prim.Native.Nat.{◌+◌, ◌*◌, ◌≤◌, ◌<◌, ◌-◌, ◌^◌}
 use lib.ListN.{take, drop}
 use Rattle.slicefile.specs.Lists.{digits}
-use Rattle.slicefile.proofs.Words.{word_step, word_bound, word_small}
 use Rattle.slicefile.proofs.contents_word.Given as goal
 
 abbrev pub invariant-loop-i : goal.invariant-loop-i

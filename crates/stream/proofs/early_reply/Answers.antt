@@ -6,4 +6,4 @@ use Rattle.stream.proofs.Hearing.{early_other}
 use Rattle.stream.proofs.early_reply.Goals as goal
 
 pub returns-else-number-eq1 : goal.returns-else-number-eq1
-returns-else-number-eq1 c = early_other c.if-number-eq1.false ∙ sym (ap early c.checked-1.given.1)
+returns-else-number-eq1 c = early_other c.if-number-eq1.false ∙ sym (ap early c.in-Bad.is)

@@ -1,20 +1,20 @@
 -- `toposort::first_mark` meets its contract. Assumes nothing.
-use Prim.Native.Nat.{◌≤◌}
+use Prim.Native.Nat.{ℕ, ◌≤◌}
+use mathlib.Core.Path.{◌≡◌}
 use native.Mathlib.Omega.{arith}
+use Rattle.toposort.specs.Reading.{place_count}
 use Rattle.toposort.proofs.Reading.{places_most}
-use borrow.Author.Rules.{rules}
 use Rattle.toposort.proofs.first_mark.Goals as goal
-use Rattle.toposort.proofs.first_mark.Goals.{After-place_count-places}
 
 -- the gate has at most six places
-few : (c : After-place_count-places) → c.place_count-places.result ≤ 6
-few c = omega (arith, c.place_count-places.ensures, places_most c.args.n c.wide16-head.result)
+few : (places n head : ℕ) → places ≡ place_count n head → places ≤ 6
+few places n head e = omega (arith, places_most n head)
 
 pub overflow_cast-result : goal.overflow_cast-result
-overflow_cast-result c = omega (arith, few c)
+overflow_cast-result c = omega (arith, few _ c.args.n c.wide16-head.result c.place_count-places.ensures)
 
 pub overflow_sub-result : goal.overflow_sub-result
-overflow_sub-result c = omega (arith, few c)
+overflow_sub-result c = omega (arith, few _ c.args.n c.wide16-head.result c.place_count-places.ensures)
 
 pub returns : goal.returns
 returns c = rw (c.place_count-places.ensures, c.wide16-head.ensures)

@@ -1,9 +1,7 @@
-use Prim.Native.Nat.{◌*◌, ◌-◌, ◌≤◌}
+use Prim.Native.Nat.{◌*◌}
 use mathlib.Core.Path.{◌≡◌}
 use native.Mathlib.Omega.{arith}
-use lib.ListN.{length, length-set}
-use Rattle.netlist.specs.Table.{signal_count}
-use Rattle.toposort.specs.Components.{FlopsListed}
+use lib.ListN.{length-set}
 use Rattle.toposort.proofs.Flops.{none_listed, one_more_listed}
 use Rattle.toposort.proofs.list_flops.Goals as goal
 

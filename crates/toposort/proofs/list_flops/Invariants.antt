@@ -1,11 +1,9 @@
 -- `toposort::list_flops` meets its contract. The invariant: the flip-flops below q are listed. Assumes nothing.
 use Prim.Native.Nat.{◌*◌, ◌-◌, ◌≤◌}
 use mathlib.Core.Path.{◌≡◌}
-use native.Mathlib.Omega.{arith}
-use lib.ListN.{length, length-set}
+use lib.ListN.{length}
 use Rattle.netlist.specs.Table.{signal_count}
 use Rattle.toposort.specs.Components.{FlopsListed}
-use Rattle.toposort.proofs.Flops.{none_listed, one_more_listed}
 use Rattle.toposort.proofs.list_flops.Given as goal
 
 abbrev pub invariant-loop-q : goal.invariant-loop-q

@@ -1,7 +1,6 @@
 -- `toposort::place_count` meets its contract, test by test. Assumes nothing.
 use borrow.Author.Tests.{lt-ltb, le-ltb, eq-eqb, ne_eqb}
 use Rattle.toposort.specs.Reading.{place_count}
-use borrow.Author.Rules.{rules}
 use Rattle.toposort.proofs.place_count.Goals as goal
 
 pub returns-then-head-n : goal.returns-then-head-n
@@ -19,17 +18,14 @@ returns-then-head-n-3 c = simp (le-ltb _ _ c.if-head-n.false, le-ltb _ _ c.if-he
 pub returns-then-head-n-4 : goal.returns-then-head-n-4
 unfolding place_count
 returns-then-head-n-4 c =
-    let b = c in
-    simp (le-ltb _ _ b.if-head-n.false, le-ltb _ _ b.if-head-n-2.false, ne_eqb _ _ c.if-head-n-3.false, eq-eqb _ _ c.if-head-n-4.true)
+    simp (le-ltb _ _ c.if-head-n.false, le-ltb _ _ c.if-head-n-2.false, ne_eqb _ _ c.if-head-n-3.false, eq-eqb _ _ c.if-head-n-4.true)
 
 pub returns-then-head-n-5 : goal.returns-then-head-n-5
 unfolding place_count
 returns-then-head-n-5 c =
-    let b = c in
-    simp (le-ltb _ _ b.if-head-n.false, le-ltb _ _ b.if-head-n-2.false, ne_eqb _ _ c.if-head-n-3.false, ne_eqb _ _ c.if-head-n-4.false, eq-eqb _ _ c.if-head-n-5.true)
+    simp (le-ltb _ _ c.if-head-n.false, le-ltb _ _ c.if-head-n-2.false, ne_eqb _ _ c.if-head-n-3.false, ne_eqb _ _ c.if-head-n-4.false, eq-eqb _ _ c.if-head-n-5.true)
 
 pub returns-else-head-n-5 : goal.returns-else-head-n-5
 unfolding place_count
 returns-else-head-n-5 c =
-    let b = c in
-    simp (le-ltb _ _ b.if-head-n.false, le-ltb _ _ b.if-head-n-2.false, ne_eqb _ _ c.if-head-n-3.false, ne_eqb _ _ c.if-head-n-4.false, ne_eqb _ _ c.if-head-n-5.false)
+    simp (le-ltb _ _ c.if-head-n.false, le-ltb _ _ c.if-head-n-2.false, ne_eqb _ _ c.if-head-n-3.false, ne_eqb _ _ c.if-head-n-4.false, ne_eqb _ _ c.if-head-n-5.false)

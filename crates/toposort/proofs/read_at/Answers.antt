@@ -4,12 +4,10 @@ use mathlib.Core.Path.{◌≡◌, sym, ◌∙◌}
 use native.Mathlib.Omega.{arith}
 use Rattle.netlist.specs.Table.{row_length}
 use Rattle.toposort.proofs.Reading.{counted_source}
-use borrow.Author.Rules.{rules}
 use Rattle.toposort.proofs.read_at.Goals as goal
 
 pub returns : goal.returns
 returns c =
-    let s = c in
-    let b = s.args in
+    let b = c.args in
     let e : row_length * b.x + (6 - b.i) ≡ row_length * b.x + suc (5 - b.i) = omega arith in
-    c.read_of.ensures ∙ rw (c.wide16-code.ensures, e) (sym (counted_source b.table.now b.n b.x (5 - b.i) s.requires.3))
+    c.read_of.ensures ∙ rw (c.wide16-code.ensures, e) (sym (counted_source b.table.now b.n b.x (5 - b.i) c.requires.3))

@@ -8,7 +8,6 @@ use Rattle.toposort.specs.declared.Read.TheVariants.{Signal, Nothing}
 use Rattle.netlist.specs.Table.{signal_wire, input_wire, source_of}
 use Rattle.toposort.specs.Reading.{as_read}
 use Rattle.toposort.proofs.Components.{below_or_not}
-use borrow.Author.Rules.{rules}
 use Rattle.toposort.proofs.read_of.Goals as goal
 
 by_test :

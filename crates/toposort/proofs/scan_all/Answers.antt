@@ -1,47 +1,36 @@
-use Prim.Native.Nat.{◌*◌, ◌≤◌}
 use mathlib.Core.Path.{sym, ◌∙◌}
 use native.Mathlib.Omega.{arith}
-use Rattle.netlist.specs.Table.{signal_count, gate_of, FlopsFirst}
-use Rattle.toposort.specs.Search.{search_of}
-use Rattle.toposort.specs.Components.{Components, remaining}
 use Rattle.toposort.proofs.Reading.{flop_reads}
 use Rattle.toposort.proofs.Opening.{all_judged, start}
 use Rattle.toposort.proofs.scan_all.Goals as goal
 
 pub list_flops-requires : goal.list_flops-requires
 list_flops-requires c =
-    let b = c in
-    let f = b.requires.flop_rows.1 in
-    ((b.requires.table.0.0, f.0.marks, f.0.order), f.1)
+    let f = c.requires.flop_rows.1 in record { n_bound = (c.requires.table.0.0, f.0.marks, f.0.order); unseen = f.1 }
 
 pub loop-p-init : goal.loop-p-init
 loop-p-init c =
-    let l = c in
-    let b = l in
-    let f = b.requires.flop_rows.1.0 in
-    let k = l.list_flops.auto.1 in
-    let e = l.list_flops.ensures in (
-      start _ _ _ b.requires.table.1
-          (record { marks = k.0 ∙ f.marks; pos = f.pos; stack = f.stack; heads = f.heads; path = f.path; order = k.1.0 ∙ f.order })
-          e (flop_reads _ _ b.requires.flop_rows.0),
+    let f = c.requires.flop_rows.1.0 in
+    let k = c.list_flops.auto in
+    let e = c.list_flops.ensures in (
+      start _ _ _ c.requires.table.1
+          (record { marks = k.marks ∙ f.marks; pos = f.pos; stack = f.stack; heads = f.heads; path = f.path; order = k.order ∙ f.order })
+          e (flop_reads _ _ c.requires.flop_rows.0),
       e.first,
       omega arith,
     )
 
 pub scan_step-p-requires : goal.scan_step-p-requires
 scan_step-p-requires c =
-    let t = c in
-    let l = t in
-    (l.loop-p.invariant.0, (l.requires.table.0, t.loop-p-test.true))
+    record { components = c.loop-p.invariant.0; table = (c.requires.table.0, c.loop-p-test.true) }
 
 pub loop-p-smaller : goal.loop-p-smaller
 loop-p-smaller c = c.scan_step-p.ensures.1
 
 pub loop-p-preserved : goal.loop-p-preserved
 loop-p-preserved c =
-    let k = c in
-    let i = k.loop-p.invariant in
-    let m = k.scan_step-p.ensures in
+    let i = c.loop-p.invariant in
+    let m = c.scan_step-p.ensures in
     (m.0, λ q l. m.2.1 q (omega arith) ∙ i.1 q l, omega arith)
 
 pub shape_of-marks : goal.shape_of-marks

@@ -1,12 +1,8 @@
 -- `toposort::scan_all` meets its contract. The invariant is the state of the search; the measure is what it may still do. Assumes nothing.
 use Prim.Native.Nat.{◌*◌, ◌≤◌}
-use mathlib.Core.Path.{sym, ◌∙◌}
-use native.Mathlib.Omega.{arith}
 use Rattle.netlist.specs.Table.{signal_count, gate_of, FlopsFirst}
 use Rattle.toposort.specs.Search.{search_of}
 use Rattle.toposort.specs.Components.{Components, remaining}
-use Rattle.toposort.proofs.Reading.{flop_reads}
-use Rattle.toposort.proofs.Opening.{all_judged, start}
 use Rattle.toposort.proofs.scan_all.Given as goal
 
 abbrev pub invariant-loop-p : goal.invariant-loop-p

@@ -1,5 +1,5 @@
 use mathlib.Core.Path.{◌≡◌}
-use Prim.Native.Nat.{◌+◌, ◌-◌, ◌≤◌, ◌<◌}
+use Prim.Native.Nat.{◌+◌, ◌-◌, ◌<◌}
 use native.Mathlib.Omega.{arith}
 use borrow.Author.Rules.{rules}
 use Rattle.walks.specs.Marked.{source_reached, any_reached}
@@ -14,7 +14,7 @@ loop-j-init c =
     (search rules, rw none)
 
 pub number_reached-found-requires : goal.number_reached-found-requires
-number_reached-found-requires c = let b = c in (b.requires.n_bound, b.requires.k_in_bounds.1 _ (omega arith))
+number_reached-found-requires c = record { n_bound = c.requires.n_bound; number_bound = c.requires.k_in_bounds.1 _ (omega arith) }
 
 pub loop-j-preserved : goal.loop-j-preserved
 loop-j-preserved c =

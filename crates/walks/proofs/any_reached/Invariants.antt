@@ -1,11 +1,8 @@
 -- `walks::any_reached` meets its contract. The loop goes from the last number down: `found` says whether one from place j on is reached. The measure is
 -- j. Assumes nothing.
 use mathlib.Core.Path.{◌≡◌}
-use Prim.Native.Nat.{◌+◌, ◌-◌, ◌≤◌, ◌<◌}
-use native.Mathlib.Omega.{arith}
-use borrow.Author.Rules.{rules}
+use Prim.Native.Nat.{◌+◌, ◌-◌, ◌≤◌}
 use Rattle.walks.specs.Marked.{source_reached, any_reached}
-use Rattle.walks.proofs.Rows.{any_more}
 use Rattle.walks.proofs.any_reached.Given as goal
 
 abbrev pub invariant-loop-j : goal.invariant-loop-j

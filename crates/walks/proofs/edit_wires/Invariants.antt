@@ -1,14 +1,10 @@
 -- `walks::edit_wires` meets its contract. The loop's invariant: `EditedAt` after i signals of the order. Assumes nothing.
-use mathlib.Core.Path.{◌≡◌, sym, ◌∙◌}
-use mathlib.Core.Logic.{⊎_elim}
+use mathlib.Core.Path.{◌≡◌}
 use Prim.Native.Nat.{◌*◌, ◌-◌, ◌≤◌}
-use native.Mathlib.Omega.{arith}
-use borrow.Author.Rules.{rules}
-use lib.ListN.{length, length-set}
-use Rattle.netlist.specs.Table.{signal_limit, signal_count}
+use lib.ListN.{length}
+use Rattle.netlist.specs.Table.{signal_limit}
 use Rattle.walks.specs.Walks.{StillWires}
-use Rattle.walks.proofs.Laying.{still_same}
-use Rattle.walks.proofs.Turns.{EditedAt, turn, turn_wires, set_still, edit_start, edit_turn, edit_pass, edit_end}
+use Rattle.walks.proofs.Turns.{EditedAt}
 use Rattle.walks.proofs.edit_wires.Given as goal
 
 abbrev pub invariant-loop-i : goal.invariant-loop-i

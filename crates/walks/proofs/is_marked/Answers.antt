@@ -1,6 +1,5 @@
 -- `walks::is_marked` meets its contract: past the end the list gives 0. Assumes nothing.
 use lib.ListN.{get_or-eq_default}
-use borrow.Author.Rules.{rules}
 use Rattle.walks.proofs.is_marked.Goals as goal
 
 pub returns-else-x-marks : goal.returns-else-x-marks

@@ -1,7 +1,6 @@
 -- `walks::lay_inputs` meets its contract. Assumes nothing.
 use mathlib.Core.Path.{◌∙◌}
 use native.Mathlib.Omega.{arith}
-use borrow.Author.Rules.{rules}
 use lib.ListN.{set, length-set}
 use Rattle.walks.proofs.Laying.{laid_inputs}
 use Rattle.walks.proofs.lay_inputs.Goals as goal

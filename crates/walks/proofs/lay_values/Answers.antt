@@ -1,5 +1,4 @@
 -- `walks::lay_values` meets its contract. Assumes nothing.
-use borrow.Author.Rules.{rules}
 use Rattle.walks.proofs.Laying.{laid_values}
 use Rattle.walks.proofs.lay_values.Goals as goal
 

@@ -1,5 +1,4 @@
 -- `walks::number_reached` meets its contract. Assumes nothing.
-use borrow.Author.Rules.{rules}
 use Rattle.walks.proofs.Reached.{number_tests}
 use Rattle.walks.proofs.number_reached.Goals as goal
 

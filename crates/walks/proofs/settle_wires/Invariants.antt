@@ -1,16 +1,11 @@
 -- `walks::settle_wires` meets its contract. The loop's invariant: the first i signals of the order have their rules' values. Assumes nothing.
-use mathlib.Core.Path.{sym, ◌∙◌}
 use Prim.Native.Nat.{◌*◌, ◌-◌, ◌≤◌}
-use native.Mathlib.Omega.{arith}
-use borrow.Author.Rules.{rules}
 use lib.ListN.{length}
 use Rattle.netlist.specs.Rule.{env}
 use Rattle.netlist.specs.Table.{gate_of}
 use Rattle.netlist.specs.Wires.{values_on, inputs_on}
 use Rattle.netlist.specs.Invariant.{SettledTo}
 use Rattle.walks.specs.Walks.{StillWires}
-use Rattle.walks.proofs.Laying.{flops_now}
-use Rattle.walks.proofs.Turns.{turn, turn_wires, set_still, settle_turn, settle_start, settle_end}
 use Rattle.walks.proofs.settle_wires.Given as goal
 
 abbrev pub invariant-loop-i : goal.invariant-loop-i

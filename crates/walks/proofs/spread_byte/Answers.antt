@@ -1,9 +1,6 @@
 use mathlib.Core.Path.{◌≡◌, refl}
-use Prim.Native.Nat.{◌-◌, ◌≤◌}
 use native.Mathlib.Omega.{arith}
 use borrow.Author.Rules.{rules}
-use Rattle.netlist.specs.Rule.{bit_at}
-use Rattle.lent.specs.Put.{Put}
 use Rattle.lent.proofs.Putting.{put_none, put_next}
 use Rattle.walks.proofs.spread_byte.Goals as goal
 

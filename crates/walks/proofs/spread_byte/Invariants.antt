@@ -1,11 +1,7 @@
 -- `walks::spread_byte` meets its contract. The loop's invariant: the first b bits are put. Assumes nothing.
-use mathlib.Core.Path.{◌≡◌, refl}
 use Prim.Native.Nat.{◌-◌, ◌≤◌}
-use native.Mathlib.Omega.{arith}
-use borrow.Author.Rules.{rules}
 use Rattle.netlist.specs.Rule.{bit_at}
 use Rattle.lent.specs.Put.{Put}
-use Rattle.lent.proofs.Putting.{put_none, put_next}
 use Rattle.walks.proofs.spread_byte.Given as goal
 
 abbrev pub invariant-loop-b : goal.invariant-loop-b

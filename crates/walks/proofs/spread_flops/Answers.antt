@@ -1,8 +1,6 @@
 use mathlib.Core.Path.{◌≡◌, ◌∙◌, sym}
-use Prim.Native.Nat.{◌-◌, ◌≤◌}
 use native.Mathlib.Omega.{arith}
 use borrow.Author.Rules.{rules}
-use Rattle.walks.specs.Walks.{FlopsOn}
 use Rattle.walks.proofs.Laying.{flops_none, flops_next}
 use Rattle.walks.proofs.spread_flops.Goals as goal
 

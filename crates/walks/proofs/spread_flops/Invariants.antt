@@ -1,10 +1,6 @@
 -- `walks::spread_flops` meets its contract. The loop's invariant: the bits of the first s slices are on their wires. Assumes nothing.
-use mathlib.Core.Path.{◌≡◌, ◌∙◌, sym}
 use Prim.Native.Nat.{◌-◌, ◌≤◌}
-use native.Mathlib.Omega.{arith}
-use borrow.Author.Rules.{rules}
 use Rattle.walks.specs.Walks.{FlopsOn}
-use Rattle.walks.proofs.Laying.{flops_none, flops_next}
 use Rattle.walks.proofs.spread_flops.Given as goal
 
 abbrev pub invariant-loop-s : goal.invariant-loop-s
