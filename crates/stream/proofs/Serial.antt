@@ -122,8 +122,8 @@ closed_after {v} c (call f rest) (suc k) l =
 behind : (reply : Reply) (r : Reader) (store bytes : List ℕ) (replies : List Reply) (all : List ℕ) (last : Bool) (next : Reply)
     → (Holds r store bytes → Follows (first_verdict replies) all last next) → ((v : Verdict) → Closed v r store → next ≡ Given v) → Leaves reply r store bytes
     → Follows (first_verdict (reply ∷ replies)) all last next
-behind More r store bytes replies all last next on again l = on l
-behind (Given v) r store bytes replies all last next on again l = again v l
+behind More r store bytes replies _ last next on again l = on l
+behind (Given v) r store bytes replies _ last next on again l = again v l
 
 held_after : {r : Reader} {store bytes : List ℕ} {calls : List Call} {replies : List Reply} → Holds r store bytes → Session r store calls replies
     → (k : ℕ) → k < length calls → Follows (first_verdict (take k replies)) (bytes ++ joined (take (suc k) calls)) (get_or calls k no_call).last (get_or replies k More)

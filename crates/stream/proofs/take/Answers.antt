@@ -1,6 +1,5 @@
 -- `stream::take` meets its contract. Assumes nothing.
 use mathlib.Core.Bool.{not}
-use Prim.Native.Nat.{◌≤◌, ◌+◌}
 use native.Mathlib.Omega.{arith}
 use borrow.Author.Tests.{not-false}
 use lib.ListN.{length, take, length-take}
