@@ -10,7 +10,6 @@ use native.Mathlib.Omega.{arith}
 use borrow.Author.Tests.{eq-eqb, ne_eqb}
 use Rattle.recordcalls.specs.Calls.{record_refusal, read_refusal}
 use Rattle.recordcalls.proofs.Answers.{read_refused, read_done}
-use borrow.Author.Rules.{rules}
 use Rattle.recordcalls.proofs.read_record.Goals as goal
 
 -- the rules on the record decide
@@ -25,10 +24,10 @@ returns-then-bytes-ne-SLICE_RECORD c = read_refused _ _ _ 10 _ (simp (ne_eqb _ _
 pub returns-then-bad_size : goal.returns-then-bad_size
 unfolding read_refusal
 returns-then-bad_size c =
-    read_refused _ _ _ 11 _ (simp (eq-eqb _ _ c.if-bytes-ne-SLICE_RECORD.false, ← c.bad_size.ensures, c.if-bad_size.true)) (λ z. omega arith) c.no_record-then-bad_size.ensures
+    read_refused _ _ _ 11 _ (simp (eq-eqb (length c.args.bytes.now) (record_length slice_tag) (omega arith), ← c.bad_size.ensures, c.if-bad_size.true)) (λ z. omega arith) c.no_record-then-bad_size.ensures
 
 pub returns-then-number-ne0 : goal.returns-then-number-ne0
-returns-then-number-ne0 c = read_refused _ _ _ _ _ (decided c.args.bytes.now c.args.n c.args.m c.if-bytes-ne-SLICE_RECORD.false c.bad_size.ensures c.if-bad_size.false c.record_refusal-number.ensures) c.if-number-ne0.true c.no_record-then-number-ne0.ensures
+returns-then-number-ne0 c = read_refused _ _ _ _ _ (decided c.args.bytes.now c.args.n c.args.m (omega arith) c.bad_size.ensures c.if-bad_size.false c.record_refusal-number.ensures) c.if-number-ne0.true c.no_record-then-number-ne0.ensures
 
 pub returns : goal.returns
-returns c = rw c.decode-slice.ensures (sym (read_done _ _ _ (decided c.args.bytes.now c.args.n c.args.m c.if-bytes-ne-SLICE_RECORD.false c.bad_size.ensures c.if-bad_size.false c.record_refusal-number.ensures ∙ c.if-number-ne0.false)))
+returns c = rw c.decode-slice.ensures (sym (read_done _ _ _ (decided c.args.bytes.now c.args.n c.args.m (omega arith) c.bad_size.ensures c.if-bad_size.false c.record_refusal-number.ensures ∙ c.if-number-ne0.false)))

@@ -1,7 +1,6 @@
 -- `recordcalls::record_refusal` meets its contract: a header that is not refused is followed by a whole body. Assumes nothing.
-use mathlib.Core.Path.{◌≡◌, ◌∙◌, sym}
+use mathlib.Core.Path.{◌∙◌, sym}
 use native.Mathlib.Omega.{arith}
-use borrow.Author.Rules.{rules}
 use borrow.Author.Tests.{lt-ltb, le-ltb}
 use Rattle.slicefile.specs.Format.{slice_tag}
 use Rattle.rules.proofs.Refusals.{or_else_first}

@@ -28,14 +28,14 @@ returns-then-part-lt-SLICE_RECORD c = write_refused _ _ _ _ 10 (simp (lt-ltb _ _
 pub returns-then-bad_size : goal.returns-then-bad_size
 unfolding write_refusal
 returns-then-bad_size c =
-    write_refused _ _ _ _ 11 (simp (le-ltb _ _ c.if-part-lt-SLICE_RECORD.false, ← c.bad_size.ensures, c.if-bad_size.true)) (λ z. omega arith)
+    write_refused _ _ _ _ 11 (simp (le-ltb (length c.args.part.now) (record_length slice_tag) (omega arith), ← c.bad_size.ensures, c.if-bad_size.true)) (λ z. omega arith)
 
 pub returns-then-number-ne0 : goal.returns-then-number-ne0
-returns-then-number-ne0 c = write_refused _ _ _ _ _ (decided c.args.slice c.args.n c.args.m (length c.args.part.now) c.if-part-lt-SLICE_RECORD.false c.bad_size.ensures c.if-bad_size.false c.encode-bytes.ensures c.record_refusal-number.ensures) c.if-number-ne0.true
+returns-then-number-ne0 c = write_refused _ _ _ _ _ (decided c.args.slice c.args.n c.args.m (length c.args.part.now) (omega arith) c.bad_size.ensures c.if-bad_size.false c.encode-bytes.ensures c.record_refusal-number.ensures) c.if-number-ne0.true
 
 pub returns : goal.returns
 returns c =
     let at = c.args in
     let l : length c.encode-bytes.result ≡ record_length slice_tag = search rules in
-    let w = write_done at.slice at.n at.m at.part.now (decided c.args.slice c.args.n c.args.m (length c.args.part.now) c.if-part-lt-SLICE_RECORD.false c.bad_size.ensures c.if-bad_size.false c.encode-bytes.ensures c.record_refusal-number.ensures ∙ c.if-number-ne0.false) in
+    let w = write_done at.slice at.n at.m at.part.now (decided c.args.slice c.args.n c.args.m (length c.args.part.now) (omega arith) c.bad_size.ensures c.if-bad_size.false c.encode-bytes.ensures c.record_refusal-number.ensures ∙ c.if-number-ne0.false) in
     (w.0, c.put_bytes.ensures ∙ sets_front at.part.now c.encode-bytes.result (record_length slice_tag) l (search rules) ∙ rw c.encode-bytes.ensures w.1)

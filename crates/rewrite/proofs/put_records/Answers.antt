@@ -1,13 +1,12 @@
-use mathlib.Core.Path.{◌≡◌, ◌∙◌, refl, sym, ap}
+use mathlib.Core.Path.{◌≡◌, ◌∙◌, sym, ap}
 use mathlib.Core.List.{List}
 use Prim.Native.Nat.{ℕ, ◌+◌, ◌-◌, ◌≤◌, ◌<◌}
 use native.Mathlib.Omega.{arith}
 use native.Mathlib.Nat.{add-sub_cancel_left}
 use borrow.Rule.Slice.PartMut.{same_len_mid}
-use lib.ListN.{length, take, length-take, length-drop}
+use lib.ListN.{length, length-take, length-drop}
 use Rattle.slicefile.specs.Format.{slice_tag, record_length}
 use Rattle.framing.proofs.RecordLaws.{size_whole}
-use Rattle.column.specs.Check.{IsSound}
 use Rattle.column.specs.File.{record_start}
 use Rattle.column.proofs.Places.{start_at, start_next}
 use Rattle.column.proofs.SoundLaws.{SoundFile, sound_file, record_inside}
@@ -47,17 +46,17 @@ pub slice_bounds-put_slice-end : goal.slice_bounds-put_slice-end
 slice_bounds-put_slice-end c = omega (arith, inside c.args.file.now (sound_file c.args.file.now c.requires.0) c.loop-s-test.true c.loop-s.invariant.1)
 
 pub slice_bounds-put_slice-count-in-loop-s : goal.slice_bounds-put_slice-count-in-loop-s
-slice_bounds-put_slice-count-in-loop-s c = omega (arith, inside c.args.file.now (sound_file c.args.file.now c.requires.0) c.loop-s-test.true c.loop-s.invariant.1, c.loop-s.invariant.2)
+slice_bounds-put_slice-count-in-loop-s c = omega (arith, inside c.args.file.now (sound_file c.args.file.now c.requires.0) c.loop-s-test.true c.loop-s.invariant.1, c.loop-s.invariant.2, start_at c.args.file.now c.loop-s.s)
 
 pub slice_bounds-put_slice-start-in-loop-s : goal.slice_bounds-put_slice-start-in-loop-s
-slice_bounds-put_slice-start-in-loop-s c = omega (arith, inside c.args.file.now (sound_file c.args.file.now c.requires.0) c.loop-s-test.true c.loop-s.invariant.1, c.loop-s.invariant.2)
+slice_bounds-put_slice-start-in-loop-s c = omega (arith, inside c.args.file.now (sound_file c.args.file.now c.requires.0) c.loop-s-test.true c.loop-s.invariant.1, c.loop-s.invariant.2, start_at c.args.file.now c.loop-s.s)
 
 pub put_slice-requires : goal.put_slice-requires
 put_slice-requires c =
     let at = c.loop-s in
     let f = sound_file c.args.file.now c.requires.0 in (
       rw (add-sub_cancel_left, at.invariant.1) (record_read _ f at.s c.loop-s-test.true),
-      simp (length-take, length-drop) (omega (arith, inside c.args.file.now f c.loop-s-test.true at.invariant.1, at.invariant.2)),
+      simp (length-take, length-drop) (omega (arith, inside c.args.file.now f c.loop-s-test.true at.invariant.1, at.invariant.2, start_at c.args.file.now at.s)),
     )
 
 pub overflow_add-at-in-loop-s : goal.overflow_add-at-in-loop-s

@@ -1,6 +1,5 @@
 -- `rewrite::put_slice` meets its contract: writing what was read gives the same bytes. Assumes nothing.
 use mathlib.Core.Path.{◌∙◌, ap}
-use borrow.Author.Rules.{rules}
 use Rattle.recordcalls.specs.Calls.{written}
 use Rattle.recordcalls.specs.declared.Reading.{Reading}
 use Rattle.recordcalls.proofs.RoundTrip.{write_read}

@@ -1,9 +1,6 @@
 -- `rewrite::rewrite_file` meets its contract. Assumes nothing.
-use mathlib.Core.Path.{◌≡◌, ◌∙◌, refl, sym}
-use borrow.Author.Rules.{rules}
+use mathlib.Core.Path.{◌∙◌, refl, sym}
 use borrow.Author.Tests.{eq-eqb, ne_eqb}
-use Rattle.column.specs.Check.{check_file}
-use Rattle.column.specs.declared.Checked.TheVariants.{Sound}
 use Rattle.rewrite.specs.Rewrite.{rewritten}
 use Rattle.rewrite.proofs.rewrite_file.Goals as goal
 
