@@ -1,7 +1,6 @@
 -- `clocknumbers::data_code` meets its contract. Assumes nothing.
 use mathlib.Core.Path.{◌∙◌, sym}
 use borrow.Author.Tests.{eq-eqb, ne_eqb}
-use borrow.Author.Rules.{rules}
 use Rattle.clocknumbers.specs.Numbers.{write_code}
 use Rattle.clocknumbers.proofs.data_code.Goals as goal
 

@@ -1,14 +1,12 @@
-use mathlib.Core.Path.{◌≡◌, ◌∙◌, refl}
-use Prim.Native.Nat.{ℕ, ◌-◌, ◌≤◌, ◌<◌}
+use mathlib.Core.Path.{◌∙◌, refl}
 use native.Mathlib.Nat.{not-suc-le-zero}
 use native.Mathlib.Omega.{arith}
 use borrow.Author.Count.{below_more}
-use borrow.Author.Rules.{rules}
 use lib.Dec.{lit≤}
-use lib.ListN.{length, get_or, length-set}
+use lib.ListN.{length-set}
 use lib.Seq.{get_or-set_same, get_or-set_other}
 use Rattle.slicefile.proofs.Tabulate.{tabulated}
-use Rattle.clocknumbers.specs.Numbers.{edge_length, edge_number, edge_numbers}
+use Rattle.clocknumbers.specs.Numbers.{edge_length, edge_numbers}
 use Rattle.clocknumbers.proofs.edge_of.Goals as goal
 
 pub loop-k-init : goal.loop-k-init

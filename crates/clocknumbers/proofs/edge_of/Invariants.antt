@@ -1,15 +1,8 @@
 -- `clocknumbers::edge_of` meets its contract. The loop has filled in the numbers below k. The measure is what is left of the list. Assumes nothing.
-use mathlib.Core.Path.{◌≡◌, ◌∙◌, refl}
+use mathlib.Core.Path.{◌≡◌}
 use Prim.Native.Nat.{ℕ, ◌-◌, ◌≤◌, ◌<◌}
-use native.Mathlib.Nat.{not-suc-le-zero}
-use native.Mathlib.Omega.{arith}
-use borrow.Author.Count.{below_more}
-use borrow.Author.Rules.{rules}
-use lib.Dec.{lit≤}
-use lib.ListN.{length, get_or, length-set}
-use lib.Seq.{get_or-set_same, get_or-set_other}
-use Rattle.slicefile.proofs.Tabulate.{tabulated}
-use Rattle.clocknumbers.specs.Numbers.{edge_length, edge_number, edge_numbers}
+use lib.ListN.{length, get_or}
+use Rattle.clocknumbers.specs.Numbers.{edge_length, edge_number}
 use Rattle.clocknumbers.proofs.edge_of.Given as goal
 
 abbrev pub invariant-loop-k : goal.invariant-loop-k
