@@ -1,9 +1,7 @@
 use mathlib.Core.Path.{◌≡◌, refl}
-use Prim.Native.Nat.{◌-◌, ◌≤◌}
 use native.Mathlib.Omega.{arith}
 use borrow.Author.Rules.{rules}
-use lib.ListN.{length, get_or}
-use Rattle.lent.specs.Put.{Put}
+use lib.ListN.{length}
 use Rattle.lent.proofs.Putting.{put_none, put_next}
 use Rattle.plan.proofs.copy_to.Goals as goal
 

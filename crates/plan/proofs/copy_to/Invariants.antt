@@ -1,11 +1,7 @@
 -- `plan::copy_to` meets its contract. The loop's invariant: the first i numbers are put. Assumes nothing.
-use mathlib.Core.Path.{◌≡◌, refl}
 use Prim.Native.Nat.{◌-◌, ◌≤◌}
-use native.Mathlib.Omega.{arith}
-use borrow.Author.Rules.{rules}
 use lib.ListN.{length, get_or}
 use Rattle.lent.specs.Put.{Put}
-use Rattle.lent.proofs.Putting.{put_none, put_next}
 use Rattle.plan.proofs.copy_to.Given as goal
 
 abbrev pub invariant-loop-i : goal.invariant-loop-i

@@ -1,5 +1,4 @@
 -- `plan::edges` meets its contract. Assumes nothing.
-use borrow.Author.Rules.{rules}
 use Rattle.plan.proofs.Parts.{from_place}
 use Rattle.plan.proofs.edges.Goals as goal
 

@@ -2,7 +2,6 @@
 use mathlib.Core.Path.{◌≡◌}
 use Prim.Native.Nat.{◌*◌}
 use native.Mathlib.Omega.{arith}
-use borrow.Author.Rules.{rules}
 use Rattle.plan.specs.Plan.{order_place}
 use Rattle.plan.proofs.Parts.{from_place}
 use Rattle.plan.proofs.order.Goals as goal

@@ -1,16 +1,14 @@
 use mathlib.Core.Path.{◌≡◌, ◌∙◌, sym, ap}
 use mathlib.Core.List.{List}
-use Prim.Native.Nat.{ℕ, ◌*◌, ◌-◌, ◌≤◌}
+use Prim.Native.Nat.{ℕ}
 use native.Mathlib.Omega.{arith}
 use borrow.Author.Rules.{rules}
 use lib.ListN.{length}
-use Rattle.lent.specs.Put.{Put}
 use Rattle.lent.proofs.Putting.{put_none}
 use Rattle.clocknumbers.specs.Numbers.{edge_length, edge_numbers}
 use Rattle.clocknumbers.proofs.Table.{numbers_length}
 use Rattle.column.specs.File.{slice_body}
 use Rattle.column.proofs.SoundLaws.{sound_file, body_length_lem}
-use Rattle.plan.specs.Plan.{edges_place, edges_of}
 use Rattle.plan.proofs.Numbers.{edges_next}
 use Rattle.plan.proofs.put_edges.Goals as goal
 
@@ -29,8 +27,7 @@ slice_body-body-requires c = (c.requires.0, search rules)
 
 pub edge_of-numbers-requires : goal.edge_of-numbers-requires
 edge_of-numbers-requires c =
-    let f = sound_file c.args.file.now c.requires.0 in
-    (
+    let f = sound_file c.args.file.now c.requires.0 in (
       omega (arith, ap length c.slice_body-body.ensures, body_length_lem c.args.file.now f c.loop-s.s (search rules)),
       f.slices_fit,
       omega (arith, f.inputs_fit),

@@ -1,7 +1,6 @@
 -- `plan::table` meets its contract. Assumes nothing.
 use mathlib.Core.Path.{sym}
 use native.Mathlib.Omega.{arith}
-use borrow.Author.Rules.{rules}
 use lib.Seq.{length-take-le}
 use Rattle.plan.proofs.table.Goals as goal
 
