@@ -1,7 +1,7 @@
 /* Quagmuffin: one column of FPGA slices, judged, settled, clocked and edited. Every function is proved to do what is said here, for any
  * bytes. docs/FORMAT.md has the slice file.
  *
- * The library is target/staticlib/libquagmuffin.a, written by `rt staticlib quagmuffin`. It allocates nothing and keeps nothing between
+ * The library is target/staticlib/libquagmuffin.a, written by `host/rt staticlib quagmuffin`. It allocates nothing and keeps nothing between
  * calls, so calls on different buffers may run at the same time.
  *
  * A buffer is a pointer and then its length in elements. What the host owes, since no call can check it and the proofs assume it:
@@ -10,9 +10,7 @@
  *   - a buffer has as many elements as its length says, and no other thread touches them during the call, but to read const ones
  *   - a buffer of words is aligned as uint64_t, a list of edits as qm_change
  *   - a buffer that is not const overlaps no other of the call
- *   - 80 KB (80,000 bytes) of stack are left
- *
- * The archive is for x86-64 Linux. That these declarations are those of the archive, the layout of qm_change included, is tested and not proved.
+ *   - 69 KB of stack are left
  *
  * Nothing else is asked: lengths, bytes, words, edits and numbers may be any, and are judged. For a file of n slices and m outside inputs
  * the buffers are:
@@ -31,8 +29,7 @@
  *   run        any bytes, also none: the next ones of a file that comes in runs
  *
  * Each function answers one number. 0 is done, but for qm_judge and qm_feed. A refusal has its number, 1 to 11, in the low 8 bits and its
- * place in the bits above (of qm_feed, where the state was three zeros or is what such calls left), and then no buffer was written, but for
- * the state and the store, which are the reader's:
+ * place in the bits above, and then no buffer was written, but for the state and the store, which are the reader's:
  *
  *   1   bytes run out in a record or before the end record       7   a driver that doesn't exist
  *   2   tag not 1, 2, 3                                           8   bytes after the end record

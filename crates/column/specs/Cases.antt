@@ -1,5 +1,5 @@
 -- The worked cases 1 to 10, as edits of the base file Z, each with what it must give.
-use Rattle.std.specs.Prelude.{◌≡◌, Bool, false, ◌||◌, ℕ, ◌+◌, ◌/◌, ◌%◌, List, [], ◌∷◌, ◌++◌, eqb, get_or, replicate}
+use Rattle.std.specs.Prelude.{◌≡◌, Bool, false, ◌||◌, ℕ, ◌/◌, ◌%◌, List, [], ◌∷◌, ◌++◌, eqb, get_or, replicate}
 use Rattle.std.proofs.lemmas.List.Edits.{sets}
 use Rattle.netlist.specs.Rule.{bit}
 use Rattle.column.specs.Judge.{Judged}

@@ -110,11 +110,11 @@ module _ (P : Reply → Type 0) (small : (v : Verdict) → SmallVerdict v → P 
     refused : (k : ℕ) → 1 ≤ k → k ≤ 11 → P (Given (Refused k 0))
     refused k l h = small (Refused k 0) (l, h, omega arith)
 
-    by_row : (sized : Bool) (said : Reply) (out : Bool) → r.said ≡ said → foreign r ≡ out → FeedsBy sized said out r store run last fed after → Both
-    by_row false said out e f k = keeps_all (refused 10 (omega arith) (omega arith)) k
-    by_row true (Given v) out e f k = keeps_all (subst P e before) k
+    by_row : (sized : Bool) (said : Reply) (strange : Bool) → r.said ≡ said → foreign r ≡ strange → FeedsBy sized said strange r store run last fed after → Both
+    by_row false said strange e f k = keeps_all (refused 10 (omega arith) (omega arith)) k
+    by_row true (Given v) strange e f k = keeps_all (subst P e before) k
     by_row true More true e f k = keeps_all (refused 11 (omega arith) (omega arith)) k
-    by_row true More false e f k = let h = hears_all _ (own_passed r f) k.takes.state in (subst P (sym k.says) h, h)
+    by_row true More false e f k = let h = hears_all _ (own_passed r f) k.takes.hears in (subst P (sym k.says) h, h)
 
     pub feeds_all : Feeds r store run last fed after → Both
     feeds_all f = by_row (eqb (length store) file_limit) r.said (foreign r) refl refl f.by

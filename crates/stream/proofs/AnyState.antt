@@ -24,16 +24,16 @@ use Rattle.stream.proofs.Taking.{own_len, front_seen}
 use Rattle.stream.proofs.Calls.{run_told}
 
 -- ---- the sender's last word
-all_judged : {bytes : List ℕ} {len passed : ℕ} {b : Bool} {next : Reader} → b ≡ true → Hears bytes len passed b next → (v : Verdict) × Judged bytes v × (next.said ≡ Given v)
-all_judged e (judged {v} j) = (v, j, refl)
-all_judged e (certain g) = absurd (true≢false (sym e))
-all_judged e (waits g) = absurd (true≢false (sym e))
+all_heard : {bytes : List ℕ} {len passed : ℕ} {b : Bool} {next : Reader} → b ≡ true → Hears bytes len passed b next → (v : Verdict) × Judged bytes v × (next.said ≡ Given v)
+all_heard e (judged {v} j) = (v, j, refl)
+all_heard e (certain g) = absurd (true≢false (sym e))
+all_heard e (waits g) = absurd (true≢false (sym e))
 
 pub last_judged : {r : Reader} {store run : List ℕ} {fed : Fed} {after : List ℕ} → length store ≡ file_limit → r.said ≡ More → foreign r ≡ false → Feeds r store run true fed after
     → (v : Verdict) × Judged (seen r store run) v × (fed.reply ≡ Given v)
 last_judged full waiting own f =
     let t = run_told full waiting own f in
-    let h = all_judged refl t.takes.hears in
+    let h = all_heard refl t.takes.hears in
     (h.0, h.1, t.says ∙ h.2)
 
 -- ---- accepted
@@ -51,10 +51,10 @@ module _ (r : Reader) (store run : List ℕ) (last : Bool) (fed : Fed) (after : 
   not_kept : {k : ℕ} → Keeps (Given (Refused k 0)) r store fed after → ⊥
   not_kept k = not_both _ refl (same_verdict (sym k.says ∙ accepts))
 
-  by_row : (sized : Bool) (said : Reply) (out : Bool) → eqb (length store) file_limit ≡ sized → foreign r ≡ out → said ≡ More → FeedsBy sized said out r store run last fed after
+  by_row : (sized : Bool) (said : Reply) (strange : Bool) → eqb (length store) file_limit ≡ sized → foreign r ≡ strange → said ≡ More → FeedsBy sized said strange r store run last fed after
       → Judged (seen r store run) (Accepted n m) × (take fed.reader.len after ≡ seen r store run)
-  by_row false said out e g o k = absurd (not_kept k)
-  by_row true (Given v) out e g o k = absurd (more_or_given (Given v) o refl)
+  by_row false said strange e g o k = absurd (not_kept k)
+  by_row true (Given v) strange e g o k = absurd (more_or_given (Given v) o refl)
   by_row true More true e g o k = absurd (not_kept k)
   by_row true More false e g o k =
       let j = hears_accepted (sym k.says ∙ accepts) k.takes.hears in

@@ -16,13 +16,13 @@ use Rattle.stream.specs.declared.Fed.{Fed}
 use Rattle.stream.specs.Feeding.{foreign, Keeps, TakesRun, FeedsBy, Feeds}
 
 -- a row of a table, found by its conditions
-row : (table : Bool → Reply → Bool → Type 0) {sized sized' out out' : Bool} {said said' : Reply} → sized ≡ sized' → said ≡ said' → out ≡ out'
-    → table sized said out → table sized' said' out'
+row : (table : Bool → Reply → Bool → Type 0) {sized sized' strange strange' : Bool} {said said' : Reply} → sized ≡ sized' → said ≡ said' → strange ≡ strange'
+    → table sized said strange → table sized' said' strange'
 row table e f g k = rw (← e, ← f, ← g) k
 
 -- the table of a call
 abbrev calls : Reader → List ℕ → List ℕ → Bool → Fed → List ℕ → Bool → Reply → Bool → Type 0
-calls r store run last fed after sized said out = FeedsBy sized said out r store run last fed after
+calls r store run last fed after sized said strange = FeedsBy sized said strange r store run last fed after
 
 sized : (store : List ℕ) → length store ≡ file_limit → eqb (length store) file_limit ≡ true
 sized store full = eq-eqb (length store) file_limit full
@@ -30,14 +30,14 @@ sized store full = eq-eqb (length store) file_limit full
 module _ {r : Reader} {store run : List ℕ} {last : Bool} {fed : Fed} {after : List ℕ} where
   -- ---- made
   pub feeds_wrong : (length store ≡ file_limit → ⊥) → Keeps (Given (Refused 10 0)) r store fed after → Feeds r store run last fed after
-  feeds_wrong ne k = record { by = row (calls r store run last fed after) {out = foreign r} {said = r.said} (sym (ne_eqb (length store) file_limit ne)) refl refl k }
+  feeds_wrong ne k = record { by = row (calls r store run last fed after) {strange = foreign r} {said = r.said} (sym (ne_eqb (length store) file_limit ne)) refl refl k }
 
   pub wrong_told : (length store ≡ file_limit → ⊥) → Feeds r store run last fed after → Keeps (Given (Refused 10 0)) r store fed after
-  wrong_told ne k = row (calls r store run last fed after) {out = foreign r} {said = r.said} (ne_eqb (length store) file_limit ne) refl refl k.by
+  wrong_told ne k = row (calls r store run last fed after) {strange = foreign r} {said = r.said} (ne_eqb (length store) file_limit ne) refl refl k.by
 
   module _ (full : length store ≡ file_limit) where
     pub feeds_again : {v : Verdict} → r.said ≡ Given v → Keeps (Given v) r store fed after → Feeds r store run last fed after
-    feeds_again e k = record { by = row (calls r store run last fed after) {out = foreign r} (sym (sized store full)) (sym e) refl k }
+    feeds_again e k = record { by = row (calls r store run last fed after) {strange = foreign r} (sym (sized store full)) (sym e) refl k }
 
     pub feeds_strange : r.said ≡ More → foreign r ≡ true → Keeps (Given (Refused 11 0)) r store fed after → Feeds r store run last fed after
     feeds_strange e f k = record { by = row (calls r store run last fed after) (sym (sized store full)) (sym e) (sym f) k }
@@ -50,7 +50,7 @@ module _ {r : Reader} {store run : List ℕ} {last : Bool} {fed : Fed} {after : 
     strange_told e f k = row (calls r store run last fed after) (sized store full) e f k.by
 
     pub again_told : {v : Verdict} → r.said ≡ Given v → Feeds r store run last fed after → Keeps (Given v) r store fed after
-    again_told e k = row (calls r store run last fed after) {out = foreign r} (sized store full) e refl k.by
+    again_told e k = row (calls r store run last fed after) {strange = foreign r} (sized store full) e refl k.by
 
     pub run_told : r.said ≡ More → foreign r ≡ false → Feeds r store run last fed after → TakesRun r store run last fed after
     run_told e f k = row (calls r store run last fed after) (sized store full) e f k.by

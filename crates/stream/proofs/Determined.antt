@@ -39,10 +39,10 @@ module _ (r : Reader) (store run : List ℕ) (last : Bool) where
   kept_once : {reply : Reply} {fed fed' : Fed} {after after' : List ℕ} → Keeps reply r store fed after → Keeps reply r store fed' after' → (fed ≡ fed') × (after ≡ after')
   kept_once k l = (same_fed (k.says ∙ sym l.says) (k.same ∙ sym l.same), k.untouched ∙ sym l.untouched)
 
-  by_row : (sized : Bool) (said : Reply) (out : Bool) (fed fed' : Fed) (after after' : List ℕ) → FeedsBy sized said out r store run last fed after
-      → FeedsBy sized said out r store run last fed' after' → (fed ≡ fed') × (after ≡ after')
-  by_row false said out fed fed' after after' k l = kept_once k l
-  by_row true (Given v) out fed fed' after after' k l = kept_once k l
+  by_row : (sized : Bool) (said : Reply) (strange : Bool) (fed fed' : Fed) (after after' : List ℕ) → FeedsBy sized said strange r store run last fed after
+      → FeedsBy sized said strange r store run last fed' after' → (fed ≡ fed') × (after ≡ after')
+  by_row false said strange fed fed' after after' k l = kept_once k l
+  by_row true (Given v) strange fed fed' after after' k l = kept_once k l
   by_row true More true fed fed' after after' k l = kept_once k l
   by_row true More false fed fed' after after' k l =
       let same = hears_unique (seen r store run) k.takes.hears l.takes.hears in

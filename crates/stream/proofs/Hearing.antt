@@ -1,4 +1,4 @@
--- The state that some bytes leave a reader in, case by case. Assumes nothing.
+-- What a reader says of the bytes it has heard, step by step. Assumes nothing.
 use mathlib.Core.Path.{◌≡◌, ◌∙◌, refl, sym, ap, subst}
 use mathlib.Core.Bool.{Bool, true, false}
 use mathlib.Core.List.{List, ◌++◌}

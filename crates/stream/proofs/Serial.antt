@@ -72,12 +72,12 @@ module _ {r : Reader} {store bytes : List ℕ} (h : Holds r store bytes) where
     same : seen r store run ≡ all
     same = ap (λ (b : List ℕ). b ++ run) h.kept
 
-    moved : Hears all (r.len + length (fitting r run)) r.passed (final last all) fed.reader
-    moved = subst (λ (b : List ℕ). Hears b (r.len + length (fitting r run)) r.passed (final last b) fed.reader) same (run_told h.room h.waits own f).takes.hears
+    heard : Hears all (r.len + length (fitting r run)) r.passed (final last all) fed.reader
+    heard = subst (λ (b : List ℕ). Hears b (r.len + length (fitting r run)) r.passed (final last b) fed.reader) same (run_told h.room h.waits own f).takes.hears
 
     -- a reader that holds bytes says what is owed on them and the run
     pub call_owed : Owed all last fed.reply
-    call_owed = subst (Owed all last) (sym (run_told h.room h.waits own f).says) (heard_owed all (passed_stay bytes run h.passed) refl moved)
+    call_owed = subst (Owed all last) (sym (run_told h.room h.waits own f).says) (heard_owed all (passed_stay bytes run h.passed) refl heard)
 
     stored : length after ≡ file_limit
     stored = ap length (run_told h.room h.waits own f).takes.stored ∙ length-sets store r.len (fitting r run) ∙ h.room
@@ -97,7 +97,7 @@ module _ {r : Reader} {store bytes : List ℕ} (h : Holds r store bytes) where
 
     -- and holds them too, or is closed with its verdict
     pub call_leaves : Leaves fed.reply fed.reader after all
-    call_leaves = subst (λ (x : Reply). Leaves x fed.reader after all) (sym (run_told h.room h.waits own f).says) (left_by refl refl moved)
+    call_leaves = subst (λ (x : Reply). Leaves x fed.reader after all) (sym (run_told h.room h.waits own f).says) (left_by refl refl heard)
 
 -- "after a verdict every call gives it again", and moves nothing
 pub call_again : {v : Verdict} {r : Reader} {store : List ℕ} → Closed v r store → {run : List ℕ} {last : Bool} {fed : Fed} {after : List ℕ} → Feeds r store run last fed after
@@ -122,8 +122,8 @@ closed_after {v} c (call f rest) (suc k) l =
 behind : (reply : Reply) (r : Reader) (store bytes : List ℕ) (replies : List Reply) (all : List ℕ) (last : Bool) (next : Reply)
     → (Holds r store bytes → Follows (first_verdict replies) all last next) → ((v : Verdict) → Closed v r store → next ≡ Given v) → Leaves reply r store bytes
     → Follows (first_verdict (reply ∷ replies)) all last next
-behind More r store bytes replies all last next on again l = on l
-behind (Given v) r store bytes replies all last next on again l = again v l
+behind More r store bytes replies _ last next on again l = on l
+behind (Given v) r store bytes replies _ last next on again l = again v l
 
 held_after : {r : Reader} {store bytes : List ℕ} {calls : List Call} {replies : List Reply} → Holds r store bytes → Session r store calls replies
     → (k : ℕ) → k < length calls → Follows (first_verdict (take k replies)) (bytes ++ joined (take (suc k) calls)) (get_or calls k no_call).last (get_or replies k More)

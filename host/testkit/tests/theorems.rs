@@ -89,7 +89,7 @@ fn every_exported_call_is_named() {
         .into_iter()
         .flat_map(|row| row.names)
         .collect();
-    let library = read("crates/quagmuffin/src/lib.rt");
+    let library = read("crates/quagmuffin_c/src/lib.rt");
     let calls = library
         .lines()
         .filter_map(|line| line.strip_prefix("pub extern \"C\" fn "));

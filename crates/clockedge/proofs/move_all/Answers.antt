@@ -1,12 +1,12 @@
 use mathlib.Core.Path.{◌≡◌}
 use mathlib.Core.List.{List}
-use Prim.Native.Nat.{ℕ, ◌+◌, ◌*◌, ◌-◌, ◌≤◌}
+use Prim.Native.Nat.{ℕ, ◌+◌, ◌*◌, ◌-◌}
 use native.Mathlib.Omega.{arith}
 use borrow.Author.Rules.{rules}
 use lib.ListN.{take, drop}
 use Rattle.clocknumbers.specs.Numbers.{edge_length}
 use Rattle.clockedge.specs.Moves.{edge_at}
-use Rattle.clockedge.proofs.Together.{MovedTo, moved_start, moved_next, moved_all}
+use Rattle.clockedge.proofs.Together.{moved_start, moved_next, moved_all}
 use Rattle.clockedge.proofs.move_all.Goals as goal
 
 -- the part that is lent has the numbers of slice s

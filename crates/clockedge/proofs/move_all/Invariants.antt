@@ -1,13 +1,6 @@
 -- `clockedge::move_all` meets its contract. The loop's invariant: the slices before s have moved. Assumes nothing.
-use mathlib.Core.Path.{◌≡◌}
-use mathlib.Core.List.{List}
-use Prim.Native.Nat.{ℕ, ◌+◌, ◌*◌, ◌-◌, ◌≤◌}
-use native.Mathlib.Omega.{arith}
-use borrow.Author.Rules.{rules}
-use lib.ListN.{take, drop}
-use Rattle.clocknumbers.specs.Numbers.{edge_length}
-use Rattle.clockedge.specs.Moves.{edge_at}
-use Rattle.clockedge.proofs.Together.{MovedTo, moved_start, moved_next, moved_all}
+use Prim.Native.Nat.{◌-◌, ◌≤◌}
+use Rattle.clockedge.proofs.Together.{MovedTo}
 use Rattle.clockedge.proofs.move_all.Given as goal
 
 abbrev pub invariant-loop-s : goal.invariant-loop-s

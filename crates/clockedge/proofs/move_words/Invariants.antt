@@ -1,12 +1,6 @@
 -- `clockedge::move_words` meets its contract. The letters below l have moved. The measure is how many are left. Assumes nothing.
-use mathlib.Core.Path.{◌≡◌, ◌∙◌, ap, subst}
-use Prim.Native.Nat.{ℕ, ◌-◌, ◌≤◌}
-use native.Mathlib.Omega.{arith}
-use borrow.Author.Rules.{rules}
-use lib.Dec.{lit≤}
-use Rattle.clockedge.specs.Moves.{word_by}
+use Prim.Native.Nat.{◌-◌, ◌≤◌}
 use Rattle.clockedge.specs.Moved.{Moved}
-use Rattle.clockedge.proofs.Moving.{moved_none, moved_more}
 use Rattle.clockedge.proofs.move_words.Given as goal
 
 abbrev pub invariant-loop-l : goal.invariant-loop-l

@@ -2,7 +2,6 @@
 use mathlib.Core.Path.{◌≡◌, ◌∙◌, sym}
 use Prim.Native.Nat.{◌+◌, ◌%◌}
 use native.Mathlib.Omega.{arith}
-use borrow.Author.Rules.{rules}
 use lib.Dec.{lit<, lit≤}
 use Rattle.clocknumbers.specs.Numbers.{enable_place, reset_place, flop_place}
 use Rattle.clockedge.proofs.Byte.{byte_reset, byte_taken, byte_kept}

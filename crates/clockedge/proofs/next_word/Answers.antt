@@ -1,7 +1,6 @@
 -- `clockedge::next_word` meets its contract, by the table's kind. Assumes nothing.
 use mathlib.Core.Path.{◌∙◌, sym, ap, ap₂}
 use borrow.Author.Tests.{eq-eqb, ne_eqb}
-use borrow.Author.Rules.{rules}
 use lib.Dec.{lit<, lit≤}
 use native.Mathlib.Omega.{arith}
 use Prim.Native.Nat.{◌+◌}

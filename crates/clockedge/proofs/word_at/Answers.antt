@@ -1,5 +1,4 @@
 -- `clockedge::word_at` meets its contract. Assumes nothing.
-use borrow.Author.Rules.{rules}
 use lib.ListN.{get_or-eq_default}
 use Rattle.clockedge.proofs.word_at.Goals as goal
 

@@ -1,11 +1,8 @@
 -- `column::check_end` meets its contract: the bytes of the end record are just those whose header is not refused. Assumes nothing.
-use mathlib.Core.Path.{◌≡◌, ◌∙◌, sym, ap}
+use mathlib.Core.Path.{◌∙◌, sym, ap}
 use mathlib.Core.Bool.{true≢false}
 use Prim.Native.Nat.{ℕ}
-use borrow.Author.Rules.{rules}
 use borrow.Author.Tests.{lt-ltb, le-ltb}
-use Rattle.slicefile.specs.Format.{end_tag}
-use Rattle.framing.specs.Framing.{header_refusal}
 use Rattle.framing.proofs.EndLaws.{end_header, end_bytes}
 use Rattle.column.specs.Check.{check_end}
 use Rattle.column.specs.declared.Checked.TheVariants.{Bad}

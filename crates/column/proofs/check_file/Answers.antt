@@ -1,6 +1,5 @@
 -- `column::check_file` meets its contract: a check taken up at the first slice. Assumes nothing.
 use mathlib.Core.Path.{◌∙◌}
-use borrow.Author.Rules.{rules}
 use Rattle.column.proofs.CheckLaws.{from_start}
 use Rattle.column.proofs.check_file.Goals as goal
 

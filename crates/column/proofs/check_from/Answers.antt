@@ -1,11 +1,11 @@
 use mathlib.Core.Path.{◌≡◌, ◌∙◌, sym, subst}
 use mathlib.Core.List.{List}
-use Prim.Native.Nat.{ℕ, ◌+◌, ◌-◌, ◌≤◌, ◌<◌}
+use Prim.Native.Nat.{ℕ, ◌≤◌}
 use native.Mathlib.Omega.{arith}
 use borrow.Author.Rules.{rules}
-use lib.ListN.{length, drop}
-use Rattle.slicefile.specs.Format.{size_tag, slice_tag, record_length, slice_count, input_count}
-use Rattle.framing.specs.Framing.{size_refusal, slice_refusal}
+use lib.ListN.{length}
+use Rattle.slicefile.specs.Format.{size_tag, record_length}
+use Rattle.framing.specs.Framing.{size_refusal}
 use Rattle.framing.proofs.RecordLaws.{size_whole}
 use Rattle.column.proofs.Places.{start_at}
 use Rattle.column.proofs.CheckLaws.{tail_whole, Stands, size_bad, taken_up, cut_off, slice_bad, slice_good, slices_end}

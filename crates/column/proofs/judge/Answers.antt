@@ -1,5 +1,4 @@
 -- `column::judge` meets its contract. Assumes nothing.
-use borrow.Author.Rules.{rules}
 use Rattle.column.proofs.Verdicts.{loaded_judged}
 use Rattle.column.proofs.judge.Goals as goal
 

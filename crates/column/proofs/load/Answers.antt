@@ -1,6 +1,5 @@
 -- `column::load` meets its contract. Assumes nothing.
 use mathlib.Core.Path.{◌∙◌, sym}
-use borrow.Author.Rules.{rules}
 use Rattle.column.specs.Judge.{bad}
 use Rattle.column.proofs.load.Goals as goal
 

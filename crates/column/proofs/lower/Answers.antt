@@ -1,10 +1,6 @@
-use mathlib.Core.Path.{◌≡◌, ◌∙◌, sym}
-use Prim.Native.Nat.{◌*◌, ◌-◌, ◌≤◌}
+use mathlib.Core.Path.{◌∙◌, sym}
 use native.Mathlib.Omega.{arith}
 use borrow.Author.Rules.{rules}
-use lib.ListN.{length}
-use Rattle.netlist.specs.Table.{slice_signals, table_length}
-use Rattle.column.specs.Compile.{LoweredTo}
 use Rattle.column.proofs.lower.Goals as goal
 
 pub loop-s-init : goal.loop-s-init

@@ -1,8 +1,6 @@
 -- `column::lower` meets its contract. The loop's invariant: the signals of the slices before s have their rows in the table. Assumes nothing.
-use mathlib.Core.Path.{◌≡◌, ◌∙◌, sym}
+use mathlib.Core.Path.{◌≡◌}
 use Prim.Native.Nat.{◌*◌, ◌-◌, ◌≤◌}
-use native.Mathlib.Omega.{arith}
-use borrow.Author.Rules.{rules}
 use lib.ListN.{length}
 use Rattle.netlist.specs.Table.{slice_signals, table_length}
 use Rattle.column.specs.Compile.{LoweredTo}

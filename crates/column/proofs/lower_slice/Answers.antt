@@ -1,13 +1,12 @@
 use mathlib.Core.Path.{◌≡◌, ◌∙◌, sym, ap}
 use mathlib.Core.List.{List}
-use Prim.Native.Nat.{ℕ, ◌<◌, ◌+◌, ◌*◌, ◌-◌, ◌≤◌}
+use Prim.Native.Nat.{ℕ, ◌<◌, ◌+◌, ◌*◌}
 use native.Mathlib.Omega.{arith}
 use borrow.Author.Rules.{rules}
 use lib.ListN.{length}
-use Rattle.netlist.specs.Table.{slice_signals, table_length}
+use Rattle.netlist.specs.Table.{slice_signals}
 use Rattle.slicefile.specs.Format.{HoldsSlice}
 use Rattle.column.specs.File.{slice_body}
-use Rattle.column.specs.Compile.{LoweredTo}
 use Rattle.column.proofs.Netlist.{gate_of_slice, lower_next}
 use Rattle.column.proofs.SoundLaws.{SoundFile, sound_file, body_length_lem}
 use Rattle.column.proofs.lower_slice.Goals as goal

@@ -1,14 +1,9 @@
 -- `column::lower_slice` meets its contract. The loop's invariant: the signals before signal k of the slice have their rows in the table. Assumes nothing.
-use mathlib.Core.Path.{◌≡◌, ◌∙◌, sym, ap}
+use mathlib.Core.Path.{◌≡◌}
 use Prim.Native.Nat.{◌+◌, ◌*◌, ◌-◌, ◌≤◌}
-use native.Mathlib.Omega.{arith}
-use borrow.Author.Rules.{rules}
 use lib.ListN.{length}
 use Rattle.netlist.specs.Table.{slice_signals, table_length}
-use Rattle.slicefile.specs.Format.{HoldsSlice}
 use Rattle.column.specs.Compile.{LoweredTo}
-use Rattle.column.proofs.Netlist.{gate_of_slice, lower_next}
-use Rattle.column.proofs.SoundLaws.{SoundFile, sound_file, body_length_lem}
 use Rattle.column.proofs.lower_slice.Given as goal
 
 abbrev pub invariant-loop-k : goal.invariant-loop-k

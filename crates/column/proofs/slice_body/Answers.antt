@@ -1,8 +1,7 @@
 -- `column::slice_body` meets its contract. Assumes nothing.
 use native.Mathlib.Omega.{arith}
-use borrow.Author.Rules.{rules}
 use Rattle.column.proofs.Places.{start_at}
-use Rattle.column.proofs.SoundLaws.{SoundFile, sound_file, record_inside, body_part}
+use Rattle.column.proofs.SoundLaws.{sound_file, record_inside, body_part}
 use Rattle.column.proofs.slice_body.Goals as goal
 
 pub overflow_mul-at : goal.overflow_mul-at

@@ -1,5 +1,4 @@
 -- `lookup::contents_bit` meets its contract. Assumes nothing.
-use borrow.Author.Rules.{rules}
 use Rattle.netlist.proofs.Bits.{past_end}
 use Rattle.lookup.proofs.contents_bit.Goals as goal
 

@@ -1,5 +1,4 @@
 -- `lookupmask::contents_bit` meets its contract. Assumes nothing.
-use borrow.Author.Rules.{rules}
 use Rattle.netlist.proofs.Bits.{past_end}
 use Rattle.lookupmask.proofs.Masks.{clear, set}
 use Rattle.lookupmask.proofs.contents_bit.Goals as goal

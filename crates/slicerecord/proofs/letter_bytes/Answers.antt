@@ -1,6 +1,5 @@
 -- `slicerecord::letter_bytes` meets its contract. Assumes nothing.
 use native.Mathlib.Nat.{add-zero}
-use borrow.Author.Rules.{rules}
 use Rattle.slicefile.specs.Lists.{tabulate}
 use Rattle.slicerecord.proofs.letter_bytes.Goals as goal
 

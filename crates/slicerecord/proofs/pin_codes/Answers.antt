@@ -1,10 +1,10 @@
+-- `slicerecord::pin_codes` meets its contract, by the loop's invariant. Assumes nothing.
 use mathlib.Core.Path.{◌≡◌, refl, ◌∙◌, ap}
 use mathlib.Core.List.{◌∷◌}
-use Prim.Native.Nat.{ℕ, suc, ◌≤◌, ◌<◌, ◌+◌, ◌-◌}
+use Prim.Native.Nat.{ℕ, suc, ◌<◌, ◌+◌, ◌-◌}
 use native.Mathlib.Numerals.{add-one}
 use native.Mathlib.Omega.{arith}
 use borrow.Author.Rules.{rules}
-use lib.Seq.{sets}
 use Rattle.slicefile.specs.Format.{pin_count, pin_code}
 use Rattle.slicefile.specs.Lists.{tabulate}
 use Rattle.slicerecord.proofs.Stores.{sets_step, sets_done}

@@ -1,14 +1,9 @@
 -- `slicerecord::pin_codes` meets its contract. The loop's invariant: the codes left to store, stored, give what is promised. Assumes nothing.
-use mathlib.Core.Path.{◌≡◌, refl, ◌∙◌, ap}
-use mathlib.Core.List.{◌∷◌}
-use Prim.Native.Nat.{ℕ, suc, ◌≤◌, ◌<◌, ◌+◌, ◌-◌}
-use native.Mathlib.Numerals.{add-one}
-use native.Mathlib.Omega.{arith}
-use borrow.Author.Rules.{rules}
+use mathlib.Core.Path.{◌≡◌}
+use Prim.Native.Nat.{◌≤◌, ◌-◌}
 use lib.Seq.{sets}
 use Rattle.slicefile.specs.Format.{pin_count, pin_code}
 use Rattle.slicefile.specs.Lists.{tabulate}
-use Rattle.slicerecord.proofs.Stores.{sets_step, sets_done}
 use Rattle.slicerecord.proofs.pin_codes.Given as goal
 
 abbrev pub invariant-loop-p : goal.invariant-loop-p

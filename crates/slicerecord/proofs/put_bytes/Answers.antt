@@ -1,10 +1,10 @@
-use mathlib.Core.Path.{◌≡◌, ◌∙◌}
-use Prim.Native.Nat.{◌≤◌, ◌+◌, ◌-◌}
+-- `slicerecord::put_bytes` meets its contract, by the loop's invariant. Assumes nothing.
+use mathlib.Core.Path.{◌∙◌}
+use Prim.Native.Nat.{◌+◌}
 use native.Mathlib.Nat.{add-zero}
 use native.Mathlib.Omega.{arith}
 use borrow.Author.Rules.{rules}
-use lib.ListN.{length, drop, length-set, drop_of_length-le}
-use lib.Seq.{sets}
+use lib.ListN.{length-set, drop_of_length-le}
 use Rattle.slicerecord.proofs.Stores.{sets_step, sets_done, drop_next}
 use Rattle.slicerecord.proofs.put_bytes.Goals as goal
 

@@ -1,10 +1,9 @@
-use mathlib.Core.Path.{◌≡◌, ◌∙◌, ap}
-use Prim.Native.Nat.{◌≤◌, ◌+◌, ◌*◌, ◌-◌}
+-- `slicerecord::put_codes` meets its contract, by the loop's invariant. Assumes nothing.
+use mathlib.Core.Path.{◌∙◌, ap}
 use native.Mathlib.Nat.{add-zero}
 use native.Mathlib.Omega.{arith}
 use borrow.Author.Rules.{rules}
-use lib.ListN.{length, drop, drop_of_length-le}
-use lib.Seq.{sets}
+use lib.ListN.{drop_of_length-le}
 use Rattle.slicerecord.specs.Record.{all_bytes}
 use Rattle.slicerecord.proofs.Stores.{numbers_step, sets_done, drop_next}
 use Rattle.slicerecord.proofs.put_codes.Goals as goal

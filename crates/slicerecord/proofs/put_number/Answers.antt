@@ -1,10 +1,10 @@
+-- `slicerecord::put_number` meets its contract, by the loop's invariant. Assumes nothing.
 use mathlib.Core.Path.{◌≡◌, ◌∙◌, ap}
-use Prim.Native.Nat.{ℕ, suc, ◌≤◌, ◌+◌, ◌-◌}
+use Prim.Native.Nat.{ℕ, suc, ◌+◌, ◌-◌}
 use native.Mathlib.Nat.{add-zero, sub-zero}
 use native.Mathlib.Omega.{arith}
 use borrow.Author.Rules.{rules}
-use lib.ListN.{length, length-set}
-use lib.Seq.{sets}
+use lib.ListN.{length-set}
 use Rattle.slicerecord.specs.Record.{bytes_of}
 use Rattle.slicerecord.proofs.Stores.{sets_step, sets_done}
 use Rattle.slicerecord.proofs.put_number.Goals as goal

@@ -1,13 +1,9 @@
 -- `slicerecord::put_number` meets its contract. The loop's invariant: the bytes left to store, stored, give what is promised. Assumes nothing.
-use mathlib.Core.Path.{◌≡◌, ◌∙◌, ap}
-use Prim.Native.Nat.{ℕ, suc, ◌≤◌, ◌+◌, ◌-◌}
-use native.Mathlib.Nat.{add-zero, sub-zero}
-use native.Mathlib.Omega.{arith}
-use borrow.Author.Rules.{rules}
-use lib.ListN.{length, length-set}
+use mathlib.Core.Path.{◌≡◌}
+use Prim.Native.Nat.{◌≤◌, ◌+◌, ◌-◌}
+use lib.ListN.{length}
 use lib.Seq.{sets}
 use Rattle.slicerecord.specs.Record.{bytes_of}
-use Rattle.slicerecord.proofs.Stores.{sets_step, sets_done}
 use Rattle.slicerecord.proofs.put_number.Given as goal
 
 abbrev pub invariant-loop-i : goal.invariant-loop-i

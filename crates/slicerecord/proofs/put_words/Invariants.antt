@@ -1,12 +1,9 @@
 -- `slicerecord::put_words` meets its contract. The loop's invariant: the bytes of the words left to store, stored, give what is promised. Assumes nothing.
-use mathlib.Core.Path.{◌≡◌, ◌∙◌, ap}
+use mathlib.Core.Path.{◌≡◌}
 use Prim.Native.Nat.{◌≤◌, ◌+◌, ◌*◌, ◌-◌}
-use native.Mathlib.Nat.{add-zero}
-use borrow.Author.Rules.{rules}
-use lib.ListN.{length, drop, drop_of_length-le}
+use lib.ListN.{length, drop}
 use lib.Seq.{sets}
 use Rattle.slicerecord.specs.Record.{all_bytes}
-use Rattle.slicerecord.proofs.Stores.{numbers_step, sets_done, drop_next}
 use Rattle.slicerecord.proofs.put_words.Given as goal
 
 abbrev pub invariant-loop-i : goal.invariant-loop-i

@@ -1,6 +1,5 @@
 -- `stream::early_reply` meets its contract. Assumes nothing.
 use mathlib.Core.Path.{sym, ap, ◌∙◌}
-use borrow.Author.Rules.{rules}
 use Rattle.stream.specs.Feeding.{early}
 use Rattle.stream.proofs.Hearing.{early_other}
 use Rattle.stream.proofs.early_reply.Goals as goal

@@ -1,6 +1,5 @@
 -- `stream::overfull_reply` meets its contract. Assumes nothing.
 use mathlib.Core.Path.{sym, ap}
-use borrow.Author.Rules.{rules}
 use Rattle.stream.specs.Feeding.{overfull}
 use Rattle.stream.proofs.overfull_reply.Goals as goal
 

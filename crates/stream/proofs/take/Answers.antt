@@ -1,6 +1,5 @@
 -- `stream::take` meets its contract. Assumes nothing.
 use mathlib.Core.Bool.{not}
-use Prim.Native.Nat.{◌≤◌, ◌+◌}
 use native.Mathlib.Omega.{arith}
 use borrow.Author.Tests.{not-false}
 use lib.ListN.{length, take, length-take}
@@ -15,7 +14,7 @@ returns c =
     let within = own_len a.reader c.requires.1 in
     -- the run ends inside a slice
     let inside : StaysInside (take a.reader.len a.store.now) a.reader.passed (length a.run.now)
-      = c.stays_inside-waits.ensures (not-false _ (or_right a.last (not c.stays_inside-waits.result) c.if-last-waits.false)) in
+    = c.stays_inside-waits.ensures (not-false _ (or_right a.last (not c.stays_inside-waits.result) c.if-last-waits.false)) in
     takes_inside a.reader a.store.now a.run.now c.requires.0 within a.last
     (omega (arith, inside.room, length-take a.reader.len a.store.now)) c.put_bytes.ensures
     (or_left a.last (not c.stays_inside-waits.result) c.if-last-waits.false) inside
