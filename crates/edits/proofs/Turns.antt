@@ -52,7 +52,7 @@ module _ (file : List ℕ) {n m : ℕ} (j : Judged file (Accepted n m)) where
   steps_turns {e} {t = t} (x ∷ es) good none-bad (next {u = u} d s) =
       let here : (bad_edit (bad_table file n) m x || false) ≡ false = or-false _ ∙ or_left (bad_edit (bad_table file n) m x) (any_bad (bad_table file n) m es) none-bad in
       let c = steps_made (x ∷ []) good (omega arith) here (next d none) in
-      call_then c (steps_turns es (edits_leave file j e (changed e (change_of x)) (x ∷ []) t u c) (or_right (bad_edit (bad_table file n) m x) (any_bad (bad_table file n) m es) none-bad) s)
+      call_then c (steps_turns {e = changed e (change_of x)} es (edits_leave file j e (changed e (change_of x)) (x ∷ []) t u c) (or_right (bad_edit (bad_table file n) m x) (any_bad (bad_table file n) m es) none-bad) s)
 
   turns_steps :
       {e after : Env} {t v : List ℕ} {es : List Edit} → InTurn file e t es after v
