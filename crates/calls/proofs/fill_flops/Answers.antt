@@ -1,14 +1,11 @@
 use mathlib.Core.Path.{◌≡◌, ◌∙◌, sym, ap}
-use mathlib.Core.List.{List}
-use Prim.Native.Nat.{ℕ, ◌≤◌, ◌-◌}
 use native.Mathlib.Omega.{arith}
 use borrow.Author.Rules.{rules}
 use lib.ListN.{length, length-set}
 use Rattle.slicefile.specs.Format.{power_up_bits}
 use Rattle.column.specs.Clock.{power_up}
-use Rattle.column.specs.File.{slice_body}
 use Rattle.column.proofs.SoundLaws.{sound_file, body_length_lem}
-use Rattle.slicefile.proofs.Filling.{Filled, filled_next, filled_all}
+use Rattle.slicefile.proofs.Filling.{filled_next, filled_all}
 use Rattle.calls.proofs.fill_flops.Invariants.{bits}
 use Rattle.calls.proofs.fill_flops.Goals as goal
 

@@ -1,6 +1,5 @@
 -- `calls::power_up_accepted` meets its contract. Assumes nothing.
 use mathlib.Core.Path.{◌∙◌, refl, sym, ap, ap₂}
-use borrow.Author.Rules.{rules}
 use Rattle.rules.specs.Rules.{given}
 use Rattle.column.proofs.Verdicts.{accepted_sound}
 use Rattle.column.proofs.SoundLaws.{sound_file}
