@@ -1,62 +1,44 @@
 -- `clockruns::row` meets its contract: the judge's refusal is handed on, and the plan stands for the file. Assumes nothing.
-use mathlib.Core.Path.{◌≡◌, refl, sym, subst}
+use mathlib.Core.Path.{◌≡◌, refl, sym}
 use Prim.Native.Nat.{◌*◌}
 use native.Mathlib.Omega.{arith}
 use borrow.Author.Rules.{rules}
-use lib.ListN.{length, take}
 use Rattle.netlist.specs.Table.{wire_count, wire_limit}
-use Rattle.netlist.proofs.Zeros.{zeros, zeros_length, zeros_all}
-use Rattle.evaluation.specs.Numbers.{Bits}
+use Rattle.netlist.proofs.Zeros.{zeros_length, zeros_all}
 use Rattle.column.specs.Clock.{state_of}
-use Rattle.plan.specs.Plan.{Ready, Loaded}
 use Rattle.plan.proofs.Plans.{ready_runs}
 use Rattle.buffers.proofs.Modes.{settle_same}
-use Rattle.calls.proofs.Calls.{handed_on, loaded_judged, planned_called}
+use Rattle.calls.proofs.Calls.{handed_on, loaded_judged, loaded_ready, planned_called}
 use Rattle.clockruns.specs.Rows.{clock_count}
 use Rattle.clockruns.proofs.row.Goals as goal
-use Rattle.clockruns.proofs.row.Goals.{In-Accepted}
-
--- the file is accepted, and its plan is there
-ready : (c : In-Accepted) → let v = c.v-1.given.0 in Ready c.args.file.now v.0 v.1.0 c.load-v.new.1.0
-ready c = subst (Loaded c.args.file.now c.load-v.new.1.0) c.v-1.given.1 c.load-v.ensures
-
--- the front of the array of wires
-front : (c : In-Accepted) → let v = c.v-1.given.0 in length (take (wire_count v.0 v.1.0) (zeros wire_limit)) ≡ wire_count v.0 v.1.0
-front c = let r = ready_runs _ (ready c) in zeros_length wire_limit _ (omega (arith, r.few, r.narrow))
-
-front-bits : (c : In-Accepted) → let v = c.v-1.given.0 in Bits (take (wire_count v.0 v.1.0) (zeros wire_limit))
-front-bits c i = let v = c.v-1.given.0 in rw (zeros_all wire_limit (wire_count v.0 v.1.0) i) (omega arith)
 
 pub returns-in_default : goal.returns-in_default
-returns-in_default c =
-    let l = c in
-    handed_on _ _ c.enum_told-1.given.1 (loaded_judged _ _ _ l.load-v.ensures) c.refusal.ensures (refl, refl)
-
-pub overflow_mul-count : goal.overflow_mul-count
-overflow_mul-count c = omega (arith, (ready_runs _ (ready c)).few)
-
-pub overflow_add-count : goal.overflow_add-count
-overflow_add-count c = omega (arith, (ready_runs _ (ready c)).few)
+returns-in_default c = handed_on _ _ c.in_default.is (loaded_judged _ _ _ c.load-v.ensures) c.refusal.ensures (refl, refl)
 
 pub overflow_add-count-2 : goal.overflow_add-count-2
-overflow_add-count-2 c = omega (arith, (ready_runs _ (ready c)).few, (ready_runs _ (ready c)).narrow)
+overflow_add-count-2 c = let r = ready_runs _ (loaded_ready c.in-Accepted.is c.load-v.ensures) in omega (arith, r.few, r.narrow)
 
 pub slice_bounds-wires-end : goal.slice_bounds-wires-end
-slice_bounds-wires-end c = let k = c in omega (arith, (ready_runs _ (ready k)).few, (ready_runs _ (ready k)).narrow)
+slice_bounds-wires-end c = let r = ready_runs _ (loaded_ready c.in-Accepted.is c.load-v.ensures) in omega (arith, r.few, r.narrow)
 
 pub slice_bounds-row_planned-end-2 : goal.slice_bounds-row_planned-end-2
-slice_bounds-row_planned-end-2 c = sym (front c.before.before.before.before.before.before)
+slice_bounds-row_planned-end-2 c =
+    let r = ready_runs _ (loaded_ready c.in-Accepted.is c.load-v.ensures) in
+    sym (zeros_length wire_limit (wire_count c.in-Accepted.n c.in-Accepted.m) (omega (arith, r.few, r.narrow)))
 
 pub row_planned-requires : goal.row_planned-requires
-row_planned-requires c = let k = c in (ready_runs _ (ready k), front k, front-bits k)
+row_planned-requires c =
+    let n = c.in-Accepted.n in
+    let m = c.in-Accepted.m in
+    let r = ready_runs _ (loaded_ready c.in-Accepted.is c.load-v.ensures) in
+    (r, zeros_length wire_limit (wire_count n m) (omega (arith, r.few, r.narrow)), λ i. rw (zeros_all wire_limit (wire_count n m) i) (omega arith))
 
 pub returns : goal.returns
 returns c =
-    let p = c in
-    let k = p in
-    let a = k.args in
-    let v = k.v-1.given.0 in
-    planned_called a.file.now _ (ready k).verdict
-    (settle_same a.file.now (ready k) (state_of a.contents.now a.flops.now) a.inputs.now a.values.now (v.1.0 * clock_count a.inputs.now v.1.0))
-    (λ made. made a.file.now (ready k))
-    p.row_planned.ensures
+    let a = c.args in
+    let m = c.in-Accepted.m in
+    let r = loaded_ready c.in-Accepted.is c.load-v.ensures in
+    planned_called a.file.now _ r.verdict
+    (settle_same a.file.now r (state_of a.contents.now a.flops.now) a.inputs.now a.values.now (m * clock_count a.inputs.now m))
+    (λ made. made a.file.now r)
+    c.row_planned.ensures
