@@ -11,7 +11,6 @@ use Rattle.netlist.specs.Rule.{bit_at, number, value_of}
 use Rattle.netlist.specs.Table.{slice_signals}
 use Rattle.netlist.specs.declared.Source.{Source}
 use Rattle.netlist.proofs.Bits.{value_bit, settled_bits}
-use Rattle.slicefile.specs.Lists.{tabulate}
 use Rattle.slicefile.specs.Format.{slice_count, input_count}
 use Rattle.slicefile.proofs.Tabulate.{tabulate_same}
 use Rattle.sources.specs.Sources.{own, carry_signal, sum_signal}

@@ -35,13 +35,13 @@ settle_refusal_by words st inputs values n m = given 10 (bad_lengths n m st inpu
 unfoldable pub settle_refusal : List ℕ → State → List ℕ → List ℕ → ℕ → ℕ → ℕ
 settle_refusal file st inputs values n m = settle_refusal_by (bad_words file st.contents) st inputs values n m
 
--- editing, with a list of edits and words that are bad or not
+-- an edit, whose own argument is bad or not
 abbrev pub edit_refusal_by : Bool → Bool → State → List ℕ → List ℕ → ℕ → ℕ → ℕ
-edit_refusal_by list words st inputs values n m =
-    given 10 (bad_lengths n m st inputs values) or_else given 11 (bad_bytes inputs || bad_bytes values || words || list)
+edit_refusal_by argument words st inputs values n m =
+    given 10 (bad_lengths n m st inputs values) or_else given 11 (bad_bytes inputs || bad_bytes values || words || argument)
 
 unfoldable pub edit_refusal : Bool → List ℕ → State → List ℕ → List ℕ → ℕ → ℕ → ℕ
-edit_refusal list file st inputs values n m = edit_refusal_by list (bad_words file st.contents) st inputs values n m
+edit_refusal argument file st inputs values n m = edit_refusal_by argument (bad_words file st.contents) st inputs values n m
 
 -- "an outside input below m", and a byte 0 or 1 for it
 abbrev pub bad_input : ℕ → ℕ → ℕ → Bool

@@ -43,9 +43,13 @@ clocks_run file states inputs olds tables K from each = (
   refl,
 )
 
-pub run_determined : (file : List ℕ) {n m : ℕ} → Judged file (Accepted n m) → {start : State} {inputs : ℕ → List ℕ} {K : ℕ} (r r' : Run file start inputs K)
-    → ((k : ℕ) → k ≤ K → r.states k ≡ r'.states k) × ((k : ℕ) → k < K → r.tables k ≡ r'.tables k)
-run_determined file j {inputs = inputs} r r' =
-    let states = run_unique file (settled_once file j) r r' in
-    let moved : (k : ℕ) → k < _ → SettledFor file (r'.states k) (inputs k) (r.tables k) = λ k l. subst (λ (q : State). SettledFor file q (inputs k) (r.tables k)) (states k (omega arith)) (r.settled k l) in
-    (states, λ k l. settled_once file j (r'.states k) (inputs k) (r.tables k) (r'.tables k) (moved k l) (r'.settled k l))
+pub run_determined : (file : List ℕ) {n m : ℕ} → Judged file (Accepted n m) → {start : State} {inputs : ℕ → List ℕ} {K : ℕ} (r r' : Run file start inputs K) (k : ℕ) → k ≤ K
+    → r.states k ≡ r'.states k
+run_determined file j r r' k l = run_unique file (settled_once file j) r r' k l
+
+-- and so are its tables
+pub tables_determined : (file : List ℕ) {n m : ℕ} → Judged file (Accepted n m) → {start : State} {inputs : ℕ → List ℕ} {K : ℕ} (r r' : Run file start inputs K) (k : ℕ) → k < K
+    → r.tables k ≡ r'.tables k
+tables_determined file j {inputs = inputs} r r' k l =
+    let moved = subst (λ (q : State). SettledFor file q (inputs k) (r.tables k)) (run_determined file j r r' k (omega arith)) (r.settled k l) in
+    settled_once file j (r'.states k) (inputs k) (r.tables k) (r'.tables k) moved (r'.settled k l)

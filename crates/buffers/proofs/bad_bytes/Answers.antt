@@ -1,15 +1,10 @@
 use mathlib.Core.Path.{◌≡◌, refl}
-use mathlib.Core.Bool.{Bool}
-use mathlib.Core.List.{List}
-use Prim.Native.Nat.{ℕ, ◌≤◌, ◌-◌}
 use native.Mathlib.Omega.{arith}
 use borrow.Author.Rules.{rules}
-use lib.Dec.{ltb}
-use lib.ListN.{length, get_or}
+use lib.ListN.{length}
 use Rattle.slicefile.specs.Lists.{any_below}
 use Rattle.slicefile.proofs.Tests.{any_next}
 use Rattle.buffers.specs.Buffers.{bad_bytes}
-use Rattle.buffers.proofs.bad_bytes.Invariants.{bad}
 use Rattle.buffers.proofs.bad_bytes.Goals as goal
 
 pub loop-i-init : goal.loop-i-init

@@ -1,15 +1,11 @@
 -- `buffers::bad_bytes` meets its contract. The loop's invariant: `found` says whether a byte before i is bad. Assumes nothing.
-use mathlib.Core.Path.{◌≡◌, refl}
+use mathlib.Core.Path.{◌≡◌}
 use mathlib.Core.Bool.{Bool}
 use mathlib.Core.List.{List}
 use Prim.Native.Nat.{ℕ, ◌≤◌, ◌-◌}
-use native.Mathlib.Omega.{arith}
-use borrow.Author.Rules.{rules}
 use lib.Dec.{ltb}
 use lib.ListN.{length, get_or}
 use Rattle.slicefile.specs.Lists.{any_below}
-use Rattle.slicefile.proofs.Tests.{any_next}
-use Rattle.buffers.specs.Buffers.{bad_bytes}
 use Rattle.buffers.proofs.bad_bytes.Given as goal
 
 abbrev pub bad : List ℕ → ℕ → Bool

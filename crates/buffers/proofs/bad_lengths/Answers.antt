@@ -1,5 +1,4 @@
 -- `buffers::bad_lengths` meets its contract. Assumes nothing.
-use borrow.Author.Rules.{rules}
 use Rattle.buffers.specs.Buffers.{bad_lengths}
 use Rattle.buffers.proofs.bad_lengths.Goals as goal
 

@@ -1,6 +1,5 @@
 -- `buffers::bad_state` meets its contract. Assumes nothing.
 use mathlib.Core.Path.{refl}
-use borrow.Author.Rules.{rules}
 use Rattle.buffers.specs.Buffers.{bad_state}
 use Rattle.buffers.proofs.bad_state.Goals as goal
 

@@ -1,5 +1,4 @@
 -- `buffers::bad_table` meets its contract. Assumes nothing.
-use borrow.Author.Rules.{rules}
 use borrow.Author.Tests.{le-leb, lt-leb}
 use Rattle.buffers.proofs.bad_table.Goals as goal
 

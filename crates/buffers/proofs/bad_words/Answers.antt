@@ -1,14 +1,10 @@
 use mathlib.Core.Path.{◌≡◌, refl}
-use mathlib.Core.Bool.{Bool}
-use mathlib.Core.List.{List}
-use Prim.Native.Nat.{ℕ, ◌≤◌, ◌-◌}
 use native.Mathlib.Omega.{arith}
 use borrow.Author.Rules.{rules}
-use lib.ListN.{length, get_or}
+use lib.ListN.{length}
 use Rattle.slicefile.specs.Lists.{any_below}
 use Rattle.slicefile.proofs.Tests.{any_next}
-use Rattle.buffers.specs.Buffers.{bad_word_by, bad_words_by}
-use Rattle.buffers.proofs.bad_words.Invariants.{bad}
+use Rattle.buffers.specs.Buffers.{bad_words_by}
 use Rattle.buffers.proofs.bad_words.Goals as goal
 
 pub loop-t-init : goal.loop-t-init

@@ -1,14 +1,11 @@
 -- `buffers::bad_words` meets its contract. The loop's invariant: `found` says whether a word before t is bad. Assumes nothing.
-use mathlib.Core.Path.{◌≡◌, refl}
+use mathlib.Core.Path.{◌≡◌}
 use mathlib.Core.Bool.{Bool}
 use mathlib.Core.List.{List}
 use Prim.Native.Nat.{ℕ, ◌≤◌, ◌-◌}
-use native.Mathlib.Omega.{arith}
-use borrow.Author.Rules.{rules}
 use lib.ListN.{length, get_or}
 use Rattle.slicefile.specs.Lists.{any_below}
-use Rattle.slicefile.proofs.Tests.{any_next}
-use Rattle.buffers.specs.Buffers.{bad_word_by, bad_words_by}
+use Rattle.buffers.specs.Buffers.{bad_word_by}
 use Rattle.buffers.proofs.bad_words.Given as goal
 
 abbrev pub bad : List ℕ → List ℕ → ℕ → Bool

@@ -1,6 +1,5 @@
 -- `buffers::edit_refusal` meets its contract: each `return` is the first refusal whose test passes. Assumes nothing.
 use mathlib.Core.Bool.{true, false}
-use borrow.Author.Rules.{rules}
 use Rattle.buffers.proofs.Splits.{edit_first, edit_second}
 use Rattle.buffers.proofs.edit_refusal.Goals as goal
 

@@ -1,6 +1,5 @@
 -- `buffers::settle_refusal` meets its contract: each `return` is the first refusal whose test passes. Assumes nothing.
 use mathlib.Core.Path.{◌∙◌, sym}
-use borrow.Author.Rules.{rules}
 use Rattle.buffers.proofs.Lengths.{lengths}
 use Rattle.buffers.proofs.settle_refusal.Goals as goal
 

@@ -1,15 +1,11 @@
 -- `calls::fill_flops` meets its contract. The loop's invariant: the bytes before s are filled. Assumes nothing.
-use mathlib.Core.Path.{◌≡◌, ◌∙◌, sym, ap}
+use mathlib.Core.Path.{◌≡◌}
 use mathlib.Core.List.{List}
 use Prim.Native.Nat.{ℕ, ◌≤◌, ◌-◌}
-use native.Mathlib.Omega.{arith}
-use borrow.Author.Rules.{rules}
-use lib.ListN.{length, length-set}
+use lib.ListN.{length}
 use Rattle.slicefile.specs.Format.{power_up_bits}
-use Rattle.column.specs.Clock.{power_up}
 use Rattle.column.specs.File.{slice_body}
-use Rattle.column.proofs.SoundLaws.{SoundFile, sound_file, body_length_lem}
-use Rattle.slicefile.proofs.Filling.{Filled, filled_next, filled_all}
+use Rattle.slicefile.proofs.Filling.{Filled}
 use Rattle.calls.proofs.fill_flops.Given as goal
 
 -- the power-up bits of slice s

@@ -1,6 +1,5 @@
 -- `calls::power_up` meets its contract: the judge's refusal is handed on. Assumes nothing.
 use mathlib.Core.Path.{refl}
-use borrow.Author.Rules.{rules}
 use Rattle.calls.proofs.Calls.{handed_on}
 use Rattle.calls.proofs.power_up.Goals as goal
 

@@ -1,7 +1,6 @@
 -- `edits::bad_edit` meets its contract, by the kind. Assumes nothing.
 use mathlib.Core.Path.{refl}
 use mathlib.Core.Bool.{or_comm}
-use borrow.Author.Rules.{rules}
 use borrow.Author.Tests.{ne_eqb}
 use lib.Dec.{ltb}
 use Rattle.buffers.specs.Buffers.{bad_table_by}

@@ -1,12 +1,9 @@
-use mathlib.Core.Path.{◌≡◌, refl}
-use mathlib.Core.Bool.{◌||◌}
-use Prim.Native.Nat.{◌-◌, ◌≤◌}
+use mathlib.Core.Path.{refl}
 use borrow.Author.Rules.{rules}
 use borrow.Author.Tests.{lt-ltb, le-ltb}
-use Rattle.editlist.specs.Listed.{edit_limit, edits_from, edits_in}
+use Rattle.editlist.specs.Listed.{edit_limit}
 use Rattle.editlist.proofs.Listing.{edits_long, edits_start}
-use Rattle.buffers.specs.Buffers.{bad_table_by}
-use Rattle.edits.specs.Edits.{any_bad, bad_edits}
+use Rattle.edits.specs.Edits.{bad_edits}
 use Rattle.edits.proofs.Checking.{bad_next, bad_end}
 use Rattle.edits.proofs.bad_edits.Goals as goal
 
@@ -23,9 +20,8 @@ loop-i-init c =
 
 pub loop-i-preserved : goal.loop-i-preserved
 loop-i-preserved c =
-    let l = c in
-    let a = l.args in
-    (search rules, bad_next _ _ _ l.loop-i.i a.count l.loop-i.found l.loop-i.invariant.1 (search rules) c.bad_edit-found.ensures)
+    let l = c.loop-i in
+    (search rules, bad_next _ _ _ l.i c.args.count l.found l.invariant.1 (search rules) c.bad_edit-found.ensures)
 
 pub returns : goal.returns
 unfolding bad_edits

@@ -1,14 +1,10 @@
 -- `edits::bad_edits` meets its contract. The loop's invariant: what is found, or any bad edit that is left, is any bad edit of the list. Assumes nothing.
-use mathlib.Core.Path.{◌≡◌, refl}
+use mathlib.Core.Path.{◌≡◌}
 use mathlib.Core.Bool.{◌||◌}
 use Prim.Native.Nat.{◌-◌, ◌≤◌}
-use borrow.Author.Rules.{rules}
-use borrow.Author.Tests.{lt-ltb, le-ltb}
-use Rattle.editlist.specs.Listed.{edit_limit, edits_from, edits_in}
-use Rattle.editlist.proofs.Listing.{edits_long, edits_start}
+use Rattle.editlist.specs.Listed.{edits_from, edits_in}
 use Rattle.buffers.specs.Buffers.{bad_table_by}
-use Rattle.edits.specs.Edits.{any_bad, bad_edits}
-use Rattle.edits.proofs.Checking.{bad_next, bad_end}
+use Rattle.edits.specs.Edits.{any_bad}
 use Rattle.edits.proofs.bad_edits.Given as goal
 
 abbrev pub invariant-loop-i : goal.invariant-loop-i

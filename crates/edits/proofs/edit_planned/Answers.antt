@@ -7,7 +7,6 @@ use native.Mathlib.Omega.{arith}
 use borrow.Author.Rules.{rules}
 use lib.ListN.{length}
 use Rattle.netlist.specs.Rule.{Env, env}
-use Rattle.netlist.specs.Changes.{touches_any}
 use Rattle.slicefile.specs.Format.{slice_limit, input_limit}
 use Rattle.walks.proofs.Reached.{marks_none}
 use Rattle.editlist.specs.Listed.{edit_limit, edits_in}

@@ -1,10 +1,9 @@
 -- `edits::store_edit` meets its contract, by the kind. Assumes nothing.
-use Prim.Native.Nat.{ℕ, ◌<◌}
+use Prim.Native.Nat.{ℕ}
 use mathlib.Core.Path.{◌≡◌}
 use native.Mathlib.Omega.{arith}
 use borrow.Author.Rules.{rules}
 use borrow.Author.Tests.{ne_eqb}
-use lib.ListN.{length}
 use Rattle.netlist.specs.Changes.{OfInput, OfContents}
 use Rattle.editlist.specs.Listed.{edit}
 use Rattle.edits.specs.Edits.{change_of}

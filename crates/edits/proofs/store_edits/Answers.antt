@@ -1,8 +1,6 @@
-use Prim.Native.Nat.{◌-◌, ◌≤◌}
 use native.Mathlib.Omega.{arith}
 use borrow.Author.Rules.{rules}
-use Rattle.edits.specs.Storing.{store}
-use Rattle.edits.proofs.Storing.{Before, before_first, next_there, before_next, before_end}
+use Rattle.edits.proofs.Storing.{before_first, next_there, before_next, before_end}
 use Rattle.edits.proofs.store_edits.Goals as goal
 
 pub loop-i-init : goal.loop-i-init

@@ -1,9 +1,7 @@
 -- `edits::store_edits` meets its contract. The loop's invariant: the edits that are left are storable, and where they are stored, all are. Assumes nothing.
 use Prim.Native.Nat.{◌-◌, ◌≤◌}
-use native.Mathlib.Omega.{arith}
-use borrow.Author.Rules.{rules}
 use Rattle.edits.specs.Storing.{store}
-use Rattle.edits.proofs.Storing.{Before, before_first, next_there, before_next, before_end}
+use Rattle.edits.proofs.Storing.{Before}
 use Rattle.edits.proofs.store_edits.Given as goal
 
 abbrev pub invariant-loop-i : goal.invariant-loop-i

@@ -1,6 +1,5 @@
 -- `simulator::clock_by` meets its contract: the state moves from the table that was settled. Assumes nothing.
 use mathlib.Core.Path.{refl}
-use borrow.Author.Rules.{rules}
 use Rattle.plan.proofs.Plans.{parts_walk, parts_edges, parts_clocked}
 use Rattle.simulator.proofs.clock_by.Goals as goal
 

@@ -1,6 +1,5 @@
 -- `simulator::clock_planned` meets its contract. Assumes nothing.
-use mathlib.Core.Path.{◌≡◌, ◌∙◌, refl, sym, ap}
-use borrow.Author.Rules.{rules}
+use mathlib.Core.Path.{◌∙◌, refl, sym, ap}
 use Rattle.netlist.specs.Table.{wire_count}
 use Rattle.buffers.proofs.Passed.{settle_passed}
 use Rattle.plan.proofs.Plans.{edges_long}
