@@ -1,7 +1,6 @@
 -- `cases::clocked` lends whole buffers and ends. The loop's invariant: the buffers keep their lengths. Assumes nothing.
 use mathlib.Core.Path.{◌≡◌}
 use Prim.Native.Nat.{◌-◌}
-use borrow.Author.Rules.{rules}
 use lib.ListN.{length}
 use Rattle.cases.proofs.clocked.Given as goal
 

@@ -1,6 +1,5 @@
 -- `cases::print_ones` keeps its index in the values and ends. Assumes nothing.
 use Prim.Native.Nat.{◌≤◌, ◌-◌}
-use borrow.Author.Rules.{rules}
 use lib.ListN.{length}
 use Rattle.cases.proofs.print_ones.Given as goal
 

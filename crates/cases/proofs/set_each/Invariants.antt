@@ -1,7 +1,6 @@
 -- `cases::set_each` keeps its indices in the file and ends. Assumes nothing.
 use mathlib.Core.Path.{◌≡◌}
 use Prim.Native.Nat.{◌-◌}
-use borrow.Author.Rules.{rules}
 use lib.ListN.{length}
 use Rattle.cases.proofs.set_each.Given as goal
 
