@@ -1,14 +1,15 @@
 use mathlib.Core.Path.{◌≡◌, ◌∙◌, sym, ap}
 use mathlib.Core.List.{List}
-use Prim.Native.Nat.{ℕ}
+use Prim.Native.Nat.{ℕ, ◌<◌}
 use native.Mathlib.Omega.{arith}
 use borrow.Author.Rules.{rules}
 use lib.ListN.{length}
 use Rattle.lent.proofs.Putting.{put_none}
+use Rattle.slicefile.specs.Format.{HoldsSlice}
 use Rattle.clocknumbers.specs.Numbers.{edge_length, edge_numbers}
 use Rattle.clocknumbers.proofs.Table.{numbers_length}
 use Rattle.column.specs.File.{slice_body}
-use Rattle.column.proofs.SoundLaws.{sound_file, body_length_lem}
+use Rattle.column.proofs.SoundLaws.{SoundFile, sound_file, body_length_lem}
 use Rattle.plan.proofs.Numbers.{edges_next}
 use Rattle.plan.proofs.put_edges.Goals as goal
 
@@ -19,6 +20,9 @@ made file body n m s e b = e ∙ ap (edge_numbers n m s) b
 count : (body : List ℕ) {numbers : List ℕ} (n m s : ℕ) → numbers ≡ edge_numbers n m s body → length numbers ≡ edge_length
 count body n m s e = ap length e ∙ numbers_length _ _ _ _
 
+held : (file body : List ℕ) {n m : ℕ} → SoundFile file n m → (s : ℕ) → s < n → body ≡ slice_body file s → HoldsSlice body
+held file body f s l e = omega (arith, ap length e, body_length_lem file f s l)
+
 pub loop-s-init : goal.loop-s-init
 loop-s-init c = (search rules, put_none _ _ _)
 
@@ -28,7 +32,7 @@ slice_body-body-requires c = (c.requires.0, search rules)
 pub edge_of-numbers-requires : goal.edge_of-numbers-requires
 edge_of-numbers-requires c =
     let f = sound_file c.args.file.now c.requires.0 in (
-      omega (arith, ap length c.slice_body-body.ensures, body_length_lem c.args.file.now f c.loop-s.s (search rules)),
+      held _ _ f _ (omega arith) c.slice_body-body.ensures,
       f.slices_fit,
       omega (arith, f.inputs_fit),
       search rules,
