@@ -1,5 +1,4 @@
 -- `quagmuffin::edit_listed` meets its contract: the answer is small, so it packs. Assumes nothing.
-use borrow.Author.Rules.{rules}
 use Rattle.quagmuffin.proofs.Small.{called_small, edit_most}
 use Rattle.quagmuffin.proofs.edit_listed.Goals as goal
 

@@ -1,6 +1,5 @@
 -- `quagmuffin::load_reader` meets its contract. Assumes nothing.
 use mathlib.Core.Path.{ap}
-use borrow.Author.Rules.{rules}
 use lib.ListN.{get_or}
 use Rattle.stream.specs.declared.Reply.{Reply}
 use Rattle.stream.specs.Feeding.{reader}

@@ -1,5 +1,4 @@
 -- `quagmuffin::qm_clock` meets its contract: the answer is small, so it packs. Assumes nothing.
-use borrow.Author.Rules.{rules}
 use Rattle.quagmuffin.proofs.Small.{called_small, settle_most}
 use Rattle.quagmuffin.proofs.qm_clock.Goals as goal
 

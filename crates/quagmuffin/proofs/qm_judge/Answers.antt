@@ -1,5 +1,4 @@
 -- `quagmuffin::qm_judge` meets its contract: the answer is small, so it packs. Assumes nothing.
-use borrow.Author.Rules.{rules}
 use Rattle.quagmuffin.proofs.Small.{judged_small, small_fits}
 use Rattle.quagmuffin.proofs.qm_judge.Goals as goal
 

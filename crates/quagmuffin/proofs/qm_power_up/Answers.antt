@@ -1,5 +1,4 @@
 -- `quagmuffin::qm_power_up` meets its contract: the answer is small, so it packs. Assumes nothing.
-use borrow.Author.Rules.{rules}
 use Rattle.quagmuffin.proofs.Small.{called_small, power_most}
 use Rattle.quagmuffin.proofs.qm_power_up.Goals as goal
 

@@ -1,7 +1,6 @@
 -- `quagmuffin::qm_read_record` meets its contract. Assumes nothing.
 use mathlib.Core.Path.{sym, subst, ◌∙◌}
 use borrow.Author.Tests.{ne_eqb}
-use borrow.Author.Rules.{rules}
 use Rattle.quagmuffin.specs.Bodies.{read_body_refusal, body_read}
 use Rattle.quagmuffin.specs.Packed.{SmallAnswer}
 use Rattle.quagmuffin.proofs.Bodies.{read_sized}

@@ -1,12 +1,9 @@
 -- `quagmuffin::read_body` meets its contract: what is stored is the body of the record that was read. Assumes nothing.
 use mathlib.Core.Path.{◌≡◌, refl, sym, ◌∙◌}
-use mathlib.Core.List.{List}
 use Prim.Native.Nat.{ℕ}
-use native.Mathlib.Omega.{arith}
 use borrow.Author.Rules.{rules}
 use Rattle.slicefile.specs.declared.Answer.{Answer}
 use Rattle.slicefile.specs.declared.Answer.TheVariants.{Refused, Done}
-use Rattle.recordcalls.specs.Calls.{read_refusal}
 use Rattle.recordcalls.proofs.RoundTrip.{read_whole}
 use Rattle.quagmuffin.proofs.Bodies.{done_none, read_answer, read_kept, read_stored}
 use Rattle.quagmuffin.proofs.read_body.Goals as goal

@@ -2,7 +2,6 @@
 use mathlib.Core.Path.{◌∙◌, ap}
 use mathlib.Core.List.{[], ◌∷◌}
 use Prim.Native.Nat.{ℕ}
-use borrow.Author.Rules.{rules}
 use Rattle.quagmuffin.proofs.Words.{three_stored}
 use Rattle.quagmuffin.proofs.store_reader.Goals as goal
 

@@ -1,6 +1,5 @@
 -- `quagmuffin::unpack_reply` meets its contract. Assumes nothing.
 use mathlib.Core.Path.{sym, ap, ◌∙◌}
-use borrow.Author.Rules.{rules}
 use Rattle.stream.specs.declared.Reply.TheVariants.{Given}
 use Rattle.quagmuffin.proofs.Words.{told_more, told_verdict}
 use Rattle.quagmuffin.proofs.unpack_reply.Goals as goal
