@@ -1,5 +1,4 @@
 -- `clockruns::clocks_in_a_row` meets its contract: the answer is small, so it packs. Assumes nothing.
-use borrow.Author.Rules.{rules}
 use Rattle.quagmuffin.proofs.Small.{called_small, settle_most}
 use Rattle.clockruns.proofs.clocks_in_a_row.Goals as goal
 
