@@ -1,8 +1,7 @@
 -- `clockruns::row` meets its contract: the judge's refusal is handed on, and the plan stands for the file. Assumes nothing.
-use mathlib.Core.Path.{◌≡◌, refl, sym}
+use mathlib.Core.Path.{refl, sym}
 use Prim.Native.Nat.{◌*◌}
 use native.Mathlib.Omega.{arith}
-use borrow.Author.Rules.{rules}
 use Rattle.netlist.specs.Table.{wire_count, wire_limit}
 use Rattle.netlist.proofs.Zeros.{zeros_length, zeros_all}
 use Rattle.column.specs.Clock.{state_of}

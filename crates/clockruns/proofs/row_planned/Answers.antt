@@ -1,11 +1,5 @@
 -- `clockruns::row_planned` meets its contract. Assumes nothing.
-use mathlib.Core.Path.{◌≡◌, ◌∙◌, refl, sym, ap}
-use Prim.Native.Nat.{ℕ, ◌*◌}
-use native.Mathlib.Nat.{mul-div-le}
-use native.Mathlib.Omega.{arith}
-use borrow.Author.Rules.{rules}
-use lib.ListN.{length}
-use Rattle.plan.proofs.Plans.{edges_long}
+use mathlib.Core.Path.{◌∙◌, refl, sym}
 use Rattle.buffers.proofs.Passed.{settle_passed}
 use Rattle.calls.specs.Calls.{carried_out}
 use Rattle.calls.proofs.Calls.{turned_by}

@@ -1,10 +1,8 @@
 -- `clockruns::run_clocks` meets its contract: each clock extends the run by one. Assumes nothing.
 use mathlib.Core.Path.{◌≡◌, ◌∙◌}
-use Prim.Native.Nat.{◌+◌, ◌*◌, ◌-◌, ◌≤◌, ◌<◌}
+use Prim.Native.Nat.{◌<◌}
 use native.Mathlib.Omega.{arith}
-use borrow.Author.Rules.{rules}
-use lib.ListN.{length}
-use Rattle.clockruns.proofs.Extending.{run_start, part_fits, part_is, part_long, part_bits, plan_next}
+use Rattle.clockruns.proofs.Extending.{run_start, part_is, part_long, part_bits, plan_next}
 use Rattle.clockruns.proofs.run_clocks.Goals as goal
 
 pub loop-i-init : goal.loop-i-init

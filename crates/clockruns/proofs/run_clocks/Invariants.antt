@@ -1,10 +1,6 @@
 -- `clockruns::run_clocks` meets its contract. The loop's invariant: i clocks have run, and the buffers keep their lengths. Assumes nothing.
-use mathlib.Core.Path.{◌≡◌, ◌∙◌}
-use Prim.Native.Nat.{◌+◌, ◌*◌, ◌-◌, ◌≤◌, ◌<◌}
-use native.Mathlib.Omega.{arith}
-use borrow.Author.Rules.{rules}
-use lib.ListN.{length}
-use Rattle.clockruns.proofs.Extending.{RunTo, run_start, part_fits, part_is, part_long, part_bits, plan_next}
+use Prim.Native.Nat.{◌-◌, ◌≤◌}
+use Rattle.clockruns.proofs.Extending.{RunTo}
 use Rattle.clockruns.proofs.run_clocks.Given as goal
 
 abbrev pub invariant-loop-i : goal.invariant-loop-i
