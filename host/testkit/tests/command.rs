@@ -32,6 +32,7 @@ judge: proved 2 of 2: judge (4 s)
 fn replica(name: &str) -> Replica {
     let layers = "# layers\nbelow:\nbeside: below\njudge: below io # two\n";
     let texts = [
+        ("bin/rt", "#!/bin/sh\nexit 9\n"),
         ("root/host/rt", RT),
         ("root/crates.txt", layers),
         ("root/crates/below/specs/Low.antt", "one"),
