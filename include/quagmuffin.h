@@ -10,7 +10,7 @@
  *   - a buffer has as many elements as its length says, and no other thread touches them during the call, but to read const ones
  *   - a buffer of words is aligned as uint64_t, a list of edits as qm_change
  *   - a buffer that is not const overlaps no other of the call
- *   - 69 KB of stack are left
+ *   - 69 KB (70,656 bytes) of stack are left
  *
  * Nothing else is asked: lengths, bytes, words, edits and numbers may be any, and are judged. For a file of n slices and m outside inputs
  * the buffers are:

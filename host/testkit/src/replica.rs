@@ -86,6 +86,13 @@ impl Replica {
     }
 }
 
+/// Nothing of a copy stays: `rt ci` takes a copy of crates.txt below the repository for a mistake.
+impl Drop for Replica {
+    fn drop(&mut self) {
+        let _ = fs::remove_dir_all(&self.folder);
+    }
+}
+
 fn link_others(folder: &Path, tool: &str, links: &Path) {
     fs::create_dir_all(links).expect("a folder");
     for entry in fs::read_dir(folder).expect("a folder of the PATH") {

@@ -24,7 +24,7 @@ pub fn judge_path() -> PathBuf {
     find_judge().unwrap_or_else(|missing| panic!("{missing}"))
 }
 
-/// Where what differs is saved: not in target/, which the gate removes.
+/// Where what differs is saved: not in target/, which may be removed.
 pub fn differences_folder() -> PathBuf {
     repository().join("differences")
 }

@@ -134,7 +134,7 @@ fn lines(command: &mut Command) -> (Vec<String>, Option<i32>) {
 #[test]
 fn gate_helps() {
     let run = |word| {
-        let (mut gate, _) = gate("gate helps", "0 passed, 9 failed");
+        let (mut gate, _copy) = gate("gate helps", "0 passed, 9 failed");
         gate.arg(word).output().expect("the gate")
     };
     let output = run("--help");
