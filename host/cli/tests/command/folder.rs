@@ -12,6 +12,13 @@ use testkit::run::repository;
 /// A folder that the binary is run in.
 pub struct Folder(PathBuf);
 
+/// Nothing of it stays: `rt ci` takes a link below the repository for a mistake.
+impl Drop for Folder {
+    fn drop(&mut self) {
+        let _ = std::fs::remove_dir_all(&self.0);
+    }
+}
+
 impl Folder {
     /// A new folder.
     pub fn new(name: &str) -> Folder {
