@@ -10,11 +10,13 @@ use lib.ListN.{length, get_or, set, length-set}
 use lib.Seq.{get_or-set_same, get_or-set_other}
 use Rattle.netlist.specs.Table.{signal_count}
 use Rattle.slicefile.proofs.Tests.{or_left, or_right, none_below, below_none}
+use Rattle.std.specs.Prelude.{Ok}
+use Rattle.slicefile.specs.declared.Reason.TheVariants.{WrongBuffer, OutOfRange}
+use Rattle.slicefile.specs.Refusals.{sized}
 use Rattle.rules.specs.Rules.{given}
 use Rattle.rules.proofs.Refusals.{given_none, or_else_right}
 use Rattle.column.specs.Clock.{State, SettledFor}
 use Rattle.column.specs.Judge.{Judged}
-use Rattle.column.specs.declared.Verdict.TheVariants.{Accepted}
 use Rattle.column.proofs.Tables.{records_sound, table_bits}
 use Rattle.buffers.specs.Buffers.{bad_state, bad_lengths, bad_bytes, bad_word, bad_words, settle_refusal, edit_refusal, GoodState, GoodInputs, GoodValues}
 use Rattle.buffers.proofs.Lengths.{settle_lengths, edit_lengths}
@@ -64,28 +66,28 @@ module _ (file : List ℕ) (st : State) (inputs values : List ℕ) (n m : ℕ) w
   lengths_good s i v = simp (s.0, eq-eqb _ _ i, eq-eqb _ _ v)
 
   -- settle and clock refuse neither a good state nor good inputs, whatever the values
-  pub settle_good : GoodState file n st → GoodInputs m inputs → length values ≡ signal_count n → settle_refusal file st inputs values n m ≡ 0
+  pub settle_good : GoodState file n st → GoodInputs m inputs → length values ≡ signal_count n → settle_refusal file st inputs values n m ≡ Ok tt
   unfolding settle_refusal
   settle_good s i v = rw (lengths_good s i.0 v, i.1, s.1)
 
-  pub settle_tells : settle_refusal file st inputs values n m ≡ 0 → GoodState file n st × GoodInputs m inputs
+  pub settle_tells : settle_refusal file st inputs values n m ≡ Ok tt → GoodState file n st × GoodInputs m inputs
   unfolding settle_refusal
   settle_tells e =
       let l = settle_lengths file st inputs values n m e in
-      let z = given_none 10 _ (or_else_right (given 10 (bad_lengths n m st inputs values)) _ e) in
+      let z = given_none OutOfRange _ (or_else_right (given WrongBuffer (bad_lengths n m st inputs values)) _ e) in
       ((state_good n st l.contents l.flops, or_right (bad_bytes inputs) _ z), (l.inputs, or_left (bad_bytes inputs) _ z))
 
   module _ (argument : Bool) where
     -- nor do the edits, with good values and a good list
-    pub edit_good : GoodState file n st → GoodInputs m inputs → GoodValues n values → argument ≡ false → edit_refusal argument file st inputs values n m ≡ 0
+    pub edit_good : GoodState file n st → GoodInputs m inputs → GoodValues n values → argument ≡ false → edit_refusal argument file st inputs values n m ≡ Ok tt
     unfolding edit_refusal
     edit_good s i v a = rw (lengths_good s i.0 v.0, i.1, v.1, s.1, a)
 
-    pub edit_tells : edit_refusal argument file st inputs values n m ≡ 0 → GoodState file n st × GoodInputs m inputs × GoodValues n values
+    pub edit_tells : edit_refusal argument file st inputs values n m ≡ Ok tt → GoodState file n st × GoodInputs m inputs × GoodValues n values
     unfolding edit_refusal
     edit_tells e =
         let l = edit_lengths argument file st inputs values n m e in
-        let z = given_none 10 _ (or_else_right (given 10 (bad_lengths n m st inputs values)) _ e) in
+        let z = given_none OutOfRange _ (or_else_right (given WrongBuffer (bad_lengths n m st inputs values)) _ e) in
         let w = or_left (bad_bytes inputs || bad_bytes values || bad_words file st.contents) argument z in
         let b = or_left (bad_bytes inputs || bad_bytes values) (bad_words file st.contents) w in (
           (state_good n st l.contents l.flops, or_right (bad_bytes inputs || bad_bytes values) _ w),
@@ -94,7 +96,7 @@ module _ (file : List ℕ) (st : State) (inputs values : List ℕ) (n m : ℕ) w
         )
 
 -- the settled table of an accepted file
-pub settled_good : (file : List ℕ) {n m : ℕ} → Judged file (Accepted n m) → (st : State) (inputs values : List ℕ) → SettledFor file st inputs values → GoodValues n values
+pub settled_good : (file : List ℕ) {n m : ℕ} → Judged file (Ok (sized n m)) → (st : State) (inputs values : List ℕ) → SettledFor file st inputs values → GoodValues n values
 settled_good file {n} j st inputs values s =
     let long : length values ≡ signal_count n = s.size ∙ ap signal_count (records_sound file j).count in
     (long, bytes_good values (λ i h. table_bits file j st inputs values s i (omega arith)))

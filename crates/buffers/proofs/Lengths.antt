@@ -7,6 +7,8 @@ use borrow.Author.Tests.{eqb-true, not-false}
 use lib.Dec.{eqb}
 use lib.ListN.{length}
 use Rattle.netlist.specs.Table.{signal_count}
+use Rattle.std.specs.Prelude.{Ok}
+use Rattle.slicefile.specs.declared.Reason.TheVariants.{WrongBuffer, OutOfRange}
 use Rattle.rules.specs.Rules.{given}
 use Rattle.rules.proofs.Refusals.{given_none, or_else_left, or_else_right}
 use Rattle.slicefile.proofs.Tests.{or_left, or_right}
@@ -45,17 +47,17 @@ lengths n m st inputs values e =
     }
 
 -- where a call is not refused its buffers have their lengths
-pub settle_lengths : (file : List ℕ) (st : State) (inputs values : List ℕ) (n m : ℕ) → settle_refusal file st inputs values n m ≡ 0 → Lengths n m st inputs values
+pub settle_lengths : (file : List ℕ) (st : State) (inputs values : List ℕ) (n m : ℕ) → settle_refusal file st inputs values n m ≡ Ok tt → Lengths n m st inputs values
 unfolding settle_refusal
-settle_lengths file st inputs values n m e = lengths n m st inputs values (given_none 9 _ (or_else_left (given 10 (bad_lengths n m st inputs values)) _ e))
+settle_lengths file st inputs values n m e = lengths n m st inputs values (given_none WrongBuffer _ (or_else_left (given WrongBuffer (bad_lengths n m st inputs values)) _ e))
 
-pub edit_lengths : (bad : Bool) (file : List ℕ) (st : State) (inputs values : List ℕ) (n m : ℕ) → edit_refusal bad file st inputs values n m ≡ 0 → Lengths n m st inputs values
+pub edit_lengths : (bad : Bool) (file : List ℕ) (st : State) (inputs values : List ℕ) (n m : ℕ) → edit_refusal bad file st inputs values n m ≡ Ok tt → Lengths n m st inputs values
 unfolding edit_refusal
-edit_lengths bad file st inputs values n m e = lengths n m st inputs values (given_none 9 _ (or_else_left (given 10 (bad_lengths n m st inputs values)) _ e))
+edit_lengths bad file st inputs values n m e = lengths n m st inputs values (given_none WrongBuffer _ (or_else_left (given WrongBuffer (bad_lengths n m st inputs values)) _ e))
 
 -- and the list of edits is good
-pub edit_argument : (bad : Bool) (file : List ℕ) (st : State) (inputs values : List ℕ) (n m : ℕ) → edit_refusal bad file st inputs values n m ≡ 0 → bad ≡ false
+pub edit_argument : (bad : Bool) (file : List ℕ) (st : State) (inputs values : List ℕ) (n m : ℕ) → edit_refusal bad file st inputs values n m ≡ Ok tt → bad ≡ false
 unfolding edit_refusal
 edit_argument bad file st inputs values n m e =
     or_right (bad_bytes inputs || bad_bytes values || bad_words file st.contents) bad
-    (given_none 10 _ (or_else_right (given 10 (bad_lengths n m st inputs values)) _ e))
+    (given_none OutOfRange _ (or_else_right (given WrongBuffer (bad_lengths n m st inputs values)) _ e))

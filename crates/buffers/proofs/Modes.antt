@@ -9,6 +9,7 @@ use lib.Dec.{eqb, leb}
 use lib.ListN.{length, get_or, drop}
 use lib.Seq.{get_or-take, get_or-drop}
 use Rattle.slicefile.specs.Format.{mode, shift_data}
+use Rattle.slicefile.specs.Refusals.{Tested}
 use Rattle.slicefile.proofs.Tests.{any_same}
 use Rattle.rules.proofs.Letters.{mode_listed}
 use Rattle.clocknumbers.specs.Numbers.{edge_length, kind_place, kind_of}
@@ -64,7 +65,7 @@ module _ (file : List ℕ) {n m : ℕ} {plan : List ℕ} (r : Ready file n m pla
       by false e = word_same table word (omega (arith, leb-false (4 * n) table e))
 
   module _ (st : State) (inputs values : List ℕ) where
-    by_lengths : (f : Bool → ℕ) (i : ℕ) → (bad_lengths n i st inputs values ≡ false → f (bad_words_by edges st.contents) ≡ f (bad_words file st.contents))
+    by_lengths : (f : Bool → Tested) (i : ℕ) → (bad_lengths n i st inputs values ≡ false → f (bad_words_by edges st.contents) ≡ f (bad_words file st.contents))
     by_lengths f i e = ap f (words_same st.contents (lengths n i st inputs values e).contents)
 
     -- settling and clocking, with any number of input bytes

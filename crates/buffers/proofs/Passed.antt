@@ -7,6 +7,8 @@ use native.Mathlib.Decide.{dec_lt}
 use native.Mathlib.Omega.{arith}
 use lib.ListN.{length, get_or, get_or-eq_default}
 use Rattle.slicefile.proofs.Tests.{or_left, or_right}
+use Rattle.std.specs.Prelude.{Ok}
+use Rattle.slicefile.specs.declared.Reason.TheVariants.{WrongBuffer, OutOfRange}
 use Rattle.rules.specs.Rules.{given}
 use Rattle.rules.proofs.Refusals.{given_none, or_else_left, or_else_right}
 use Rattle.evaluation.specs.Numbers.{Bits}
@@ -26,15 +28,15 @@ all_bits bytes e c = by (dec_lt c (length bytes))
         rw (get_or-eq_default bytes 0 past) (omega arith)
 
 module _ (words : Bool) (st : State) (inputs values : List ℕ) (n m : ℕ) where
-  pub settle_passed : settle_refusal_by words st inputs values n m ≡ 0 → Lengths n m st inputs values × Bits inputs
+  pub settle_passed : settle_refusal_by words st inputs values n m ≡ Ok tt → Lengths n m st inputs values × Bits inputs
   settle_passed e =
-      let z = given_none 10 _ (or_else_right (given 10 (bad_lengths n m st inputs values)) _ e) in
-      (lengths n m st inputs values (given_none 9 _ (or_else_left (given 10 (bad_lengths n m st inputs values)) _ e)), all_bits inputs (or_left (bad_bytes inputs) words z))
+      let z = given_none OutOfRange _ (or_else_right (given WrongBuffer (bad_lengths n m st inputs values)) _ e) in
+      (lengths n m st inputs values (given_none WrongBuffer _ (or_else_left (given WrongBuffer (bad_lengths n m st inputs values)) _ e)), all_bits inputs (or_left (bad_bytes inputs) words z))
 
   pub edit_passed :
-      (bad : Bool) → edit_refusal_by bad words st inputs values n m ≡ 0 → Lengths n m st inputs values × Bits inputs × Bits values × (bad ≡ false)
+      (bad : Bool) → edit_refusal_by bad words st inputs values n m ≡ Ok tt → Lengths n m st inputs values × Bits inputs × Bits values × (bad ≡ false)
   edit_passed bad e =
-      let z = given_none 10 _ (or_else_right (given 10 (bad_lengths n m st inputs values)) _ e) in
+      let z = given_none OutOfRange _ (or_else_right (given WrongBuffer (bad_lengths n m st inputs values)) _ e) in
       let w = or_left (bad_bytes inputs || bad_bytes values || words) bad z in
       let b = or_left (bad_bytes inputs || bad_bytes values) words w in
-      (lengths n m st inputs values (given_none 9 _ (or_else_left (given 10 (bad_lengths n m st inputs values)) _ e)), all_bits inputs (or_left (bad_bytes inputs) (bad_bytes values) b), all_bits values (or_right (bad_bytes inputs) (bad_bytes values) b), or_right (bad_bytes inputs || bad_bytes values || words) bad z)
+      (lengths n m st inputs values (given_none WrongBuffer _ (or_else_left (given WrongBuffer (bad_lengths n m st inputs values)) _ e)), all_bits inputs (or_left (bad_bytes inputs) (bad_bytes values) b), all_bits values (or_right (bad_bytes inputs) (bad_bytes values) b), or_right (bad_bytes inputs || bad_bytes values || words) bad z)

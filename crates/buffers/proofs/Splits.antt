@@ -3,13 +3,15 @@ use mathlib.Core.Path.{◌≡◌, refl, ◌∙◌, ap}
 use mathlib.Core.Bool.{Bool, true, false, ◌||◌}
 use mathlib.Core.List.{List}
 use Prim.Native.Nat.{ℕ}
+use Rattle.slicefile.specs.declared.Reason.TheVariants.{WrongBuffer, OutOfRange}
+use Rattle.slicefile.specs.Refusals.{Tested}
 use Rattle.rules.specs.Rules.{given, ◌or_else◌}
-use Rattle.rules.proofs.Refusals.{or_else_first, or_else_second}
 use Rattle.column.specs.Clock.{State}
 use Rattle.buffers.specs.Buffers.{bad_lengths, bad_bytes, settle_refusal_by, edit_refusal_by}
 
 split : (lengths inputs values words bad : Bool)
-    → (given 10 lengths or_else given 11 (inputs || words)) or_else given 11 (values || bad) ≡ given 10 lengths or_else given 11 (inputs || values || words || bad)
+    → (given WrongBuffer lengths or_else given OutOfRange (inputs || words)) or_else given OutOfRange (values || bad)
+    ≡ given WrongBuffer lengths or_else given OutOfRange (inputs || values || words || bad)
 split true inputs values words bad = refl
 split false true values words bad = refl
 split false false true true bad = refl
@@ -17,14 +19,9 @@ split false false true false bad = refl
 split false false false true bad = refl
 split false false false false bad = refl
 
-module _ (bad words : Bool) (st : State) (inputs values : List ℕ) (n m : ℕ) {number : ℕ} (e : number ≡ settle_refusal_by words st inputs values n m) where
-  edit_splits : number or_else given 11 (bad_bytes values || bad) ≡ edit_refusal_by bad words st inputs values n m
-  edit_splits =
-      ap (λ (k : ℕ). k or_else given 11 (bad_bytes values || bad)) e
-      ∙ split (bad_lengths n m st inputs values) (bad_bytes inputs) (bad_bytes values) words bad
-
-  pub edit_first : (number ≡ 0 → ⊥) → number ≡ edit_refusal_by bad words st inputs values n m
-  edit_first some = or_else_first number _ some ∙ edit_splits
-
-  pub edit_second : number ≡ 0 → (t : Bool) → bad_bytes values || bad ≡ t → given 11 t ≡ edit_refusal_by bad words st inputs values n m
-  edit_second none t same = rw (← same) (or_else_second number _ none ∙ edit_splits)
+pub edit_splits :
+    (bad words : Bool) (st : State) (inputs values : List ℕ) (n m : ℕ) {tested : Tested} → tested ≡ settle_refusal_by words st inputs values n m
+    → tested or_else given OutOfRange (bad_bytes values || bad) ≡ edit_refusal_by bad words st inputs values n m
+edit_splits bad words st inputs values n m e =
+    ap (λ (t : Tested). t or_else given OutOfRange (bad_bytes values || bad)) e
+    ∙ split (bad_lengths n m st inputs values) (bad_bytes inputs) (bad_bytes values) words bad

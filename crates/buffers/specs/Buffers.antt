@@ -3,6 +3,8 @@ use Rattle.std.specs.Prelude.{ℕ, ◌+◌, ◌*◌, ◌/◌, ◌%◌, ◌^◌, 
 use Rattle.netlist.specs.Table.{signal_count}
 use Rattle.slicefile.specs.Lists.{any_below}
 use Rattle.slicefile.specs.Format.{mode}
+use Rattle.slicefile.specs.declared.Reason.TheVariants.{WrongBuffer, OutOfRange}
+use Rattle.slicefile.specs.Refusals.{Tested}
 use Rattle.rules.specs.Rules.{given, ◌or_else◌}
 use Rattle.clocknumbers.specs.Numbers.{edge_length, kind_place}
 use Rattle.column.specs.Clock.{State}
@@ -29,18 +31,18 @@ unfoldable pub bad_words : List ℕ → List ℕ → Bool
 bad_words file contents = any_below (length contents) (λ t. bad_word file t (get_or contents t 0))
 
 -- settling and clocking, with words that are bad or not: "bytes that are only filled (values in settle and clock; all in power up) are not judged"
-abbrev pub settle_refusal_by : Bool → State → List ℕ → List ℕ → ℕ → ℕ → ℕ
-settle_refusal_by words st inputs values n m = given 10 (bad_lengths n m st inputs values) or_else given 11 (bad_bytes inputs || words)
+abbrev pub settle_refusal_by : Bool → State → List ℕ → List ℕ → ℕ → ℕ → Tested
+settle_refusal_by words st inputs values n m = given WrongBuffer (bad_lengths n m st inputs values) or_else given OutOfRange (bad_bytes inputs || words)
 
-unfoldable pub settle_refusal : List ℕ → State → List ℕ → List ℕ → ℕ → ℕ → ℕ
+unfoldable pub settle_refusal : List ℕ → State → List ℕ → List ℕ → ℕ → ℕ → Tested
 settle_refusal file st inputs values n m = settle_refusal_by (bad_words file st.contents) st inputs values n m
 
 -- an edit, whose own argument is bad or not
-abbrev pub edit_refusal_by : Bool → Bool → State → List ℕ → List ℕ → ℕ → ℕ → ℕ
+abbrev pub edit_refusal_by : Bool → Bool → State → List ℕ → List ℕ → ℕ → ℕ → Tested
 edit_refusal_by argument words st inputs values n m =
-    given 10 (bad_lengths n m st inputs values) or_else given 11 (bad_bytes inputs || bad_bytes values || words || argument)
+    given WrongBuffer (bad_lengths n m st inputs values) or_else given OutOfRange (bad_bytes inputs || bad_bytes values || words || argument)
 
-unfoldable pub edit_refusal : Bool → List ℕ → State → List ℕ → List ℕ → ℕ → ℕ → ℕ
+unfoldable pub edit_refusal : Bool → List ℕ → State → List ℕ → List ℕ → ℕ → ℕ → Tested
 edit_refusal argument file st inputs values n m = edit_refusal_by argument (bad_words file st.contents) st inputs values n m
 
 -- "an outside input below m", and a byte 0 or 1 for it

@@ -9,8 +9,10 @@ ghost use Rattle.buffers.specs.Buffers.{bad_state, bad_lengths, bad_bytes, bad_w
 
 use clocknumbers::{EDGE_LENGTH, KINDS};
 use netlist::SLICE_SIGNALS;
+use slicefile::Reason;
 
 // Whether the contents or the flip-flops have another length than n slices take.
+#[tactic(auto, unfolding(crate::specs::Buffers::bad_state))]
 pub fn bad_state(n: usize, contents: &[u64], flops: &[u8]) -> bool
     requires { n ≤ slice_limit }
     ensures { result ≡ bad_state n (state_of contents.now flops.now) }
@@ -19,6 +21,7 @@ pub fn bad_state(n: usize, contents: &[u64], flops: &[u8]) -> bool
 }
 
 // Whether any of the four buffers has another length than named.
+#[tactic(auto, unfolding(crate::specs::Buffers::bad_lengths))]
 fn bad_lengths(
     n: usize,
     m: usize,
@@ -34,14 +37,13 @@ fn bad_lengths(
 }
 
 // Whether a byte is neither 0 nor 1.
+#[tactic(auto, using(slicefile::proofs::Tests::any_next), unfolding(slicefile::specs::Lists::any_below, crate::specs::Buffers::bad_bytes))]
 fn bad_bytes(bytes: &[u8]) -> bool
     ensures { result ≡ bad_bytes bytes.now }
 {
     let mut found = false;
-    let mut i = 0;
-    while i < bytes.len() {
-        found = (1 < bytes[i]) | found;
-        i += 1;
+    for &byte in bytes {
+        found = (1 < byte) | found;
     }
     found
 }
@@ -56,15 +58,14 @@ fn bad_word(edges: &[u16], n: usize, t: usize, word: u64) -> bool
 }
 
 // Whether any word does.
+#[tactic(auto, using(slicefile::proofs::Tests::any_next), unfolding(slicefile::specs::Lists::any_below, crate::specs::Buffers::bad_words_by))]
 fn bad_words(edges: &[u16], n: usize, contents: &[u64]) -> bool
     requires { (n ≤ slice_limit) × (length edges.now ≡ edge_length * n) × (length contents.now ≡ 4 * n) }
     ensures { result ≡ bad_words_by edges.now contents.now }
 {
     let mut found = false;
-    let mut t = 0;
-    while t < contents.len() {
-        found = bad_word(edges, n, t, contents[t]) | found;
-        t += 1;
+    for (t, &word) in contents.iter().enumerate() {
+        found = bad_word(edges, n, t, word) | found;
     }
     found
 }
@@ -80,7 +81,7 @@ pub fn bad_table(edges: &[u16], n: usize, table: usize, word: u64) -> bool
     bad_word(edges, n, table, word)
 }
 
-// The refusal of settling and clocking n slices with m outside inputs, 0 where there is none.
+// The refusal of settling and clocking n slices with m outside inputs, if there is one.
 pub fn settle_refusal(
     edges: &[u16],
     n: usize,
@@ -89,22 +90,23 @@ pub fn settle_refusal(
     flops: &[u8],
     inputs: &[u8],
     values: &[u8],
-) -> usize
+) -> Result<(), Reason>
     requires { (n ≤ slice_limit) × (length edges.now ≡ edge_length * n) }
     ensures { result ≡ settle_refusal_by (bad_words_by edges.now contents.now) (state_of contents.now flops.now) inputs.now values.now n m }
 {
     if bad_lengths(n, m, contents, flops, inputs, values) {
-        return 10;
+        return Err(Reason::WrongBuffer);
     }
     let bytes = bad_bytes(inputs);
     let words = bad_words(edges, n, contents);
     if bytes | words {
-        return 11;
+        return Err(Reason::OutOfRange);
     }
-    0
+    Ok(())
 }
 
-// The refusal of an edit call, whose list is bad or not, 0 where there is none: that of settling, then the values and the list.
+// The refusal of an edit call, whose list is bad or not, if there is one: that of settling, then the values and the list.
+#[tactic(auto, using(crate::proofs::Splits::edit_splits))]
 pub fn edit_refusal(
     bad: bool,
     edges: &[u16],
@@ -114,17 +116,14 @@ pub fn edit_refusal(
     flops: &[u8],
     inputs: &[u8],
     values: &[u8],
-) -> usize
+) -> Result<(), Reason>
     requires { (n ≤ slice_limit) × (length edges.now ≡ edge_length * n) }
     ensures { result ≡ edit_refusal_by bad (bad_words_by edges.now contents.now) (state_of contents.now flops.now) inputs.now values.now n m }
 {
-    let number = settle_refusal(edges, n, m, contents, flops, inputs, values);
-    if number != 0 {
-        return number;
-    }
+    settle_refusal(edges, n, m, contents, flops, inputs, values)?;
     let bytes = bad_bytes(values);
     if bytes | bad {
-        return 11;
+        return Err(Reason::OutOfRange);
     }
-    0
+    Ok(())
 }

@@ -1,13 +1,13 @@
 // Runs the paper's worked cases on files of one slice, and writes what settles, what the clock leaves and what is refused, a line a case.
 #![tactic(auto)]
 
-ghost use Rattle.std.specs.Prelude.{◌<◌, ◌≤◌};
+ghost use Rattle.std.specs.Prelude.{◌<◌};
 ghost use Rattle.slicefile.specs.Format.{slice_tag, body_length, pin_count};
 
 use netlist::SLICE_SIGNALS;
 use slicefile::{
-    Answer, BYPASS_PIN, CARRY_DATA, CARRY_START, CODE, CONTENTS, END_TAG, HEAD, KIND, MODE_D, PINS,
-    PINS_D, SET_RESET_USED, SET_RESET_VALUES, SIZE_BODY, SIZE_RECORD, SIZE_TAG, SLICE_BODY,
+    BYPASS_PIN, CARRY_DATA, CARRY_START, CODE, CONTENTS, END_TAG, HEAD, KIND, MODE_D, PINS, PINS_D,
+    Refusal, SET_RESET_USED, SET_RESET_VALUES, SIZE_BODY, SIZE_RECORD, SIZE_TAG, SLICE_BODY,
     SLICE_COUNT, SLICE_RECORD, SLICE_TAG, SR_PIN, TABLE_PINS, WE_PIN,
 };
 use std::io;
@@ -36,7 +36,7 @@ const DX_PIN: usize = BYPASS_PIN + 3;
 #[derive(Clone, Copy)]
 struct Left {
     word: u64,
-    flops: u8,
+    flops: u64,
 }
 
 // Base file Z: no outside input, and a body of 124 zero bytes.
@@ -66,26 +66,18 @@ fn drive(file: File, pin: usize) -> File
     set(file, PINS + CODE * pin, 1)
 }
 
-// The file with each byte of the body from first on, step by step and before end, set.
-fn set_each(mut file: File, first: usize, end: usize, step: usize, byte: u8) -> File
-    requires { (end ≤ body_length slice_tag) × (0 < step) × (step ≤ 2) }
-{
-    let mut i = first;
-    while i < end {
-        file[BODY + i] = byte;
-        i += step;
-    }
+// The file with all contents ones.
+fn fill(mut file: File) -> File {
+    file[BODY + CONTENTS..BODY + CARRY_DATA].fill(255);
     file
 }
 
-// The file with all contents ones.
-fn fill(file: File) -> File {
-    set_each(file, CONTENTS, CARRY_DATA, 1, 255)
-}
-
-// The file with the pins D1 to D6 driven by the constant 1.
-fn address(file: File) -> File {
-    set_each(file, D1, D_END, CODE, 1)
+// The file with the pins D1 to D6 driven by the constant 1: their low bytes.
+fn address(mut file: File) -> File {
+    for place in (D1..D_END).step_by(CODE) {
+        file[BODY + place] = 1;
+    }
+    file
 }
 
 // Table D of a SLICEM in a mode, with DX and WE at 1.
@@ -105,57 +97,62 @@ fn print_number(rt: &impl Print, n: u64) -> io::Result<()> {
     print!(rt; " {n}")
 }
 
+// A refusal: its number and its place.
+fn print_refusal(rt: &impl Print, refusal: Refusal) -> io::Result<()> {
+    let number = usize::from(refusal.reason);
+    let place = refusal.place;
+    print!(rt; " refused {number} {place}")
+}
+
 // The numbers of the signals at 1.
 fn print_ones(rt: &impl Print, values: &[u8]) -> io::Result<()> {
-    let mut i = 0;
-    while i < values.len() {
-        if values[i] == 1 {
+    for (i, value) in values.iter().enumerate() {
+        if *value == 1 {
             print_number(rt, i as u64)?;
         }
-        i += 1;
     }
     Ok(())
 }
 
-// What a file settles to from power-up, in the contents lent. The value table starts as ones.
-fn settle_case(rt: &impl Print, label: &str, file: File, contents: &mut [u64]) -> io::Result<()> {
+// Settles a file from power-up, in the contents lent. Power up's refusal is passed over: settle has the same to give.
+fn settle(file: &File, contents: &mut [u64], values: &mut [u8]) -> Result<(), Refusal> {
     let mut flops = [0u8; 1];
+    calls::power_up(file, contents, &mut flops).ok();
+    simulator::settle(file, contents, &flops, &[], values)
+}
+
+// What a file settles to from power-up. The value table starts as ones.
+fn settle_case(rt: &impl Print, label: &str, file: File, contents: &mut [u64]) -> io::Result<()> {
     let mut values = [1u8; SLICE_SIGNALS];
-    let inputs = [0u8; 0];
-    calls::power_up(&file, contents, &mut flops);
     print!(rt; "{label}")?;
-    match simulator::settle(&file, contents, &flops, &inputs, &mut values) {
-        Answer::Refused { number, place } => {
-            print!(rt; " refused")?;
-            print_number(rt, number as u64)?;
-            print_number(rt, place as u64)?;
-        }
-        Answer::Done => print_ones(rt, &values)?,
+    match settle(&file, contents, &mut values) {
+        Ok(()) => print_ones(rt, &values)?,
+        Err(refusal) => print_refusal(rt, refusal)?,
     }
     println!(rt; "")
 }
 
 // What a number of clocks leave from power-up.
-fn clocked(file: File, clocks: usize) -> Left {
+fn clocked(file: File, clocks: usize) -> Result<Left, Refusal> {
     let mut contents = [0u64; 4];
     let mut flops = [0u8; 1];
     let mut values = [0u8; SLICE_SIGNALS];
-    let inputs = [0u8; 0];
-    calls::power_up(&file, &mut contents, &mut flops);
-    let mut i = 0;
-    while i < clocks {
-        simulator::clock(&file, &mut contents, &mut flops, &inputs, &mut values);
-        i += 1;
+    calls::power_up(&file, &mut contents, &mut flops)?;
+    for _ in 0..clocks {
+        simulator::clock(&file, &mut contents, &mut flops, &[], &mut values)?;
     }
-    Left {
+    Ok(Left {
         word: contents[3],
-        flops: flops[0],
-    }
+        flops: u64::from(flops[0]),
+    })
 }
 
-// A byte as a number to print.
-fn wide(byte: u8) -> u64 {
-    byte as u64
+// A number that clocks leave.
+fn print_left(rt: &impl Print, left: Result<u64, Refusal>) -> io::Result<()> {
+    match left {
+        Ok(n) => print_number(rt, n),
+        Err(refusal) => print_refusal(rt, refusal),
+    }
 }
 
 // Case 5 drives A1 by 4096: its high byte is 16.
@@ -174,12 +171,12 @@ fn main(rt: HostRuntime) -> io::Result<()> {
     settle_case(&rt, "case 5:", set(base(), A1_HIGH, 16), &mut words)?;
     settle_case(&rt, "short contents:", base(), &mut short)?;
     print!(rt; "case 9:")?;
-    print_number(&rt, clocked(writing(2), 1).word)?;
-    print_number(&rt, clocked(writing(2), 32).word)?;
+    print_left(&rt, clocked(writing(2), 1).map(|left| left.word))?;
+    print_left(&rt, clocked(writing(2), 32).map(|left| left.word))?;
     print!(rt; "\ncase 10:")?;
-    print_number(&rt, clocked(address(writing(1)), 1).word)?;
+    print_left(&rt, clocked(address(writing(1)), 1).map(|left| left.word))?;
     print!(rt; "\ncase 11:")?;
-    print_number(&rt, wide(clocked(resetting(1), 1).flops))?;
-    print_number(&rt, wide(clocked(resetting(255), 1).flops))?;
+    print_left(&rt, clocked(resetting(1), 1).map(|left| left.flops))?;
+    print_left(&rt, clocked(resetting(255), 1).map(|left| left.flops))?;
     println!(rt; "")
 }

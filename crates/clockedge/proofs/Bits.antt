@@ -13,9 +13,6 @@ module _ (c i : ℕ) where
   parts : c ≡ c / 2 ^ (1 + i) * 2 ^ (1 + i) + (bit_at c i * 2 ^ i + c % 2 ^ i)
   parts = sym (split c (1 + i)) ∙ ap (λ (x : ℕ). c / 2 ^ (1 + i) * 2 ^ (1 + i) + x) (mod-pow-add c 1 i)
 
-  pub bit_below : bit_at c i * 2 ^ i ≤ c
-  bit_below = omega (arith, parts)
-
   -- a word with one bit set anew still fits
   pub with_bit_fits : (b : ℕ) → i < 64 → c < 2 ^ 64 → b < 2 → with_bit c i b < 2 ^ 64
   with_bit_fits b h fits small =

@@ -1,6 +1,7 @@
 -- On the numbers of a slice that passes the rules, the edge does what the paper says of the slice. Assumes nothing.
 use mathlib.Core.Path.{◌≡◌, refl, ◌∙◌, ap}
 use mathlib.Core.Bool.{Bool, true, false, cond, ◌&&◌}
+use Rattle.std.specs.Prelude.{Ok}
 use mathlib.Core.List.{List, [], ◌∷◌}
 use Prim.Native.Nat.{ℕ, zero, suc, ◌+◌, ◌-◌, ◌<◌}
 use native.Mathlib.Omega.{arith}
@@ -147,7 +148,7 @@ module _ (n m : ℕ) (wires : List ℕ) (v : Source → ℕ) (low : get_or wires
     we_law = ap (λ (k : ℕ). get_or wires k 0) (number_at n m s body write_place (lit< tt)) ∙ pin_on write_enable_pin
 
     -- a letter's word after the edge
-    pub word_law : body_refusal n m s body ≡ 0 → (l old next : ℕ) → l < 4 → word_by wires numbers l old next ≡ next_word v n m body l old next
+    pub word_law : body_refusal n m s body ≡ Ok tt → (l old next : ℕ) → l < 4 → word_by wires numbers l old next ≡ next_word v n m body l old next
     unfolding word_by next_word
     word_law ok l old next h =
         let p = pin_source n m body (bypass_pin l) in

@@ -1,6 +1,6 @@
 -- The state while the slices move, one after another: what has moved is what the edge leaves, from the state before it, and the rest is as it was.
 -- Assumes nothing.
-use mathlib.Core.Path.{◌≡◌, ◌∙◌, refl, ap}
+use mathlib.Core.Path.{◌≡◌, ◌∙◌, ap}
 use mathlib.Core.Logic.{inl, inr}
 use mathlib.Core.List.{List}
 use Prim.Native.Nat.{ℕ, ◌+◌, ◌*◌, ◌/◌, ◌%◌, ◌≤◌, ◌<◌}
@@ -28,17 +28,6 @@ module _ (wires edges words bytes : List ℕ) where
     pub contents_kept : (i : ℕ) → 4 * s ≤ i → get_or contents i 0 ≡ get_or words i 0
     pub flops_moved : Filled byte s flops
     pub flops_kept : (i : ℕ) → s ≤ i → get_or flops i 0 ≡ get_or bytes i 0
-
-  pub moved_start : MovedTo 0 words bytes
-  moved_start =
-      record {
-        contents_size = refl;
-        flops_size = refl;
-        contents_moved = λ i l. absurd (omega arith);
-        contents_kept = λ i l. refl;
-        flops_moved = λ i l. absurd (omega arith);
-        flops_kept = λ i l. refl;
-      }
 
   pub moved_next :
       (s : ℕ) (contents flops contents' flops' : List ℕ) → s < length flops → MovedTo s contents flops → Moved wires (edge_at edges s) s 4 contents contents'

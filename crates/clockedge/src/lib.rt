@@ -16,15 +16,13 @@ fn next_flops(edge: &[u16], wires: &[u8], old: u8) -> u8
     requires { EdgeFits wires.now edge.now }
     ensures { result ≡ flops_by wires.now edge.now old }
 {
-    let reset = evaluation::wire(wires, edge[RESET]);
-    if reset == 1 {
-        return (edge[VALUES] % 256) as u8;
+    if evaluation::wire(wires, edge[RESET]) == 1 {
+        (edge[VALUES] % 256) as u8
+    } else if evaluation::wire(wires, edge[ENABLE]) == 1 {
+        evaluation::number_on(edge, FLOPS, 8, wires)
+    } else {
+        old
     }
-    let enable = evaluation::wire(wires, edge[ENABLE]);
-    if enable == 1 {
-        return evaluation::number_on(edge, FLOPS, 8, wires);
-    }
-    old
 }
 
 // A word with bit i set to b.
@@ -34,7 +32,7 @@ fn with_bit(word: u64, i: u8, b: u8) -> u64
 {
     let power = 1u64 << i;
     let was = (word >> i) % 2;
-    word - was * power + (b as u64) * power
+    word - was * power + u64::from(b) * power
 }
 
 // A word with d put in at bit 0 and bit 31 lost.
@@ -42,7 +40,7 @@ fn shifted_word(word: u64, d: u8) -> u64
     requires { d < 2 }
     ensures { result ≡ shifted word d }
 {
-    2 * (word % 2147483648) + d as u64
+    2 * (word % 2147483648) + u64::from(d)
 }
 
 fn bit_31(word: u64) -> u8
@@ -60,25 +58,15 @@ fn next_word(edge: &[u16], l: usize, wires: &[u8], old: u64, next: u64) -> u64
     if enable != 1 {
         return old;
     }
-    let kind = edge[KINDS + l];
-    if kind == 0 {
-        return old;
+    match edge[KINDS + l] {
+        0 => old,
+        1 => {
+            let address = evaluation::number_on(edge, ADDRESS, 6, wires);
+            with_bit(old, address, evaluation::wire(wires, edge[DATA + l]))
+        }
+        2 => shifted_word(old, evaluation::wire(wires, edge[DATA + l])),
+        _ => shifted_word(old, bit_31(next)),
     }
-    let bit = evaluation::wire(wires, edge[DATA + l]);
-    if kind == 1 {
-        let address = evaluation::number_on(edge, ADDRESS, 6, wires);
-        return with_bit(old, address, bit);
-    }
-    if kind == 2 {
-        return shifted_word(old, bit);
-    }
-    shifted_word(old, bit_31(next))
-}
-
-fn word_at(contents: &[u64], i: usize) -> u64
-    ensures { result ≡ get_or contents.now i 0 }
-{
-    if i < contents.len() { contents[i] } else { 0 }
 }
 
 // Moves the words of slice s, ascending, so that each letter still sees the next one's word before the edge.
@@ -86,13 +74,10 @@ fn move_words(edge: &[u16], s: usize, wires: &[u8], contents: &mut [u64])
     requires { EdgeFits wires.now edge.now × (4 * s + 4 ≤ length contents.old) }
     ensures { Moved wires.now edge.now s 4 contents.old contents.new }
 {
-    let mut l = 0;
-    while l < 4 {
+    for l in 0..4 {
         let at = 4 * s + l;
-        let next = word_at(contents, at + 1);
-        let word = next_word(edge, l, wires, contents[at], next);
-        contents[at] = word;
-        l += 1;
+        let next = contents.get(at + 1).copied().unwrap_or(0);
+        contents[at] = next_word(edge, l, wires, contents[at], next);
     }
 }
 
@@ -103,8 +88,7 @@ fn move_slice(edge: &[u16], s: usize, wires: &[u8], contents: &mut [u64], flops:
     ensures flops_value { flops.new ≡ set flops.old s (flops_by wires.now edge.now (get_or flops.old s 0)) }
 {
     move_words(edge, s, wires, contents);
-    let byte = next_flops(edge, wires, flops[s]);
-    flops[s] = byte;
+    flops[s] = next_flops(edge, wires, flops[s]);
 }
 
 // Moves the state of n slices over the clock edge. All move together, from the table on the wires.
@@ -114,10 +98,8 @@ pub fn move_all(edges: &[u16], n: usize, wires: &[u8], contents: &mut [u64], flo
     ensures contents_value { contents.new ≡ words_by wires.now edges.now n contents.old }
     ensures flops_value { flops.new ≡ bytes_by wires.now edges.now n flops.old }
 {
-    let mut s = 0;
-    while s < n {
+    for s in 0..n {
         let at = EDGE_LENGTH * s;
         move_slice(&edges[at..at + EDGE_LENGTH], s, wires, contents, flops);
-        s += 1;
     }
 }

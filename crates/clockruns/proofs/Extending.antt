@@ -8,13 +8,16 @@ use native.Mathlib.Numerals.{add-one}
 use native.Mathlib.Omega.{arith}
 use lib.ListN.{length, get_or, take, drop, length-drop, get_or-eq_default}
 use lib.Seq.{length-take-le, get_or-take, get_or-drop}
+use Rattle.slicefile.specs.Refusals.{Answer}
 use Rattle.evaluation.specs.Numbers.{Bits}
 use Rattle.column.specs.Clock.{State, state_of, clocked, SettledFor}
 use Rattle.column.proofs.Runs.{still, clock_last, last_state, last_table_lem}
 use Rattle.plan.specs.Plan.{Ready}
 use Rattle.simulator.specs.Running.{Clocked}
 use Rattle.simulator.proofs.Planned.{settled_file, moved_file}
-use Rattle.clockruns.specs.Rows.{inputs_at, Ran, RanPlan}
+use Rattle.buffers.proofs.Modes.{settle_same}
+use Rattle.calls.proofs.Calls.{planned_called}
+use Rattle.clockruns.specs.Rows.{clock_count, inputs_at, Ran, RanPlan, RowCalled, RowPlanned}
 
 -- the inputs of clock i, among those of k clocks
 module _ (inputs : List ℕ) (m k i : ℕ) (all : length inputs ≡ m * k) (inside : i < k) where
@@ -26,7 +29,7 @@ module _ (inputs : List ℕ) (m k i : ℕ) (all : length inputs ≡ m * k) (insi
   pub part_is : take (m * i + m - m * i) (drop (m * i) inputs) ≡ inputs_at inputs m i
   part_is = let e : m * i + m - m * i ≡ m = omega arith in rw e
 
-  pub part_long : length (inputs_at inputs m i) ≡ m
+  part_long : length (inputs_at inputs m i) ≡ m
   part_long = length-take-le m (drop (m * i) inputs) (omega (arith, length-drop (m * i) inputs, part_fits))
 
   pub part_bits : Bits inputs → Bits (inputs_at inputs m i)
@@ -80,3 +83,10 @@ pub record RunTo (plan : List ℕ) (n m i : ℕ) (contents₀ contents flops₀ 
 pub run_start : {plan : List ℕ} {n m : ℕ} {contents flops inputs values wires : List ℕ} → Bits wires → RunTo plan n m 0 contents contents flops flops inputs values values wires wires
 run_start b =
     record { contents_size = refl; flops_size = refl; values_size = refl; wires_size = refl; bits = b; ran = λ file r. ran_none file _ _ _ _ }
+
+-- a row by a plan that stands for a file is one of the file
+pub row_file :
+    (file : List ℕ) {n m : ℕ} {plan : List ℕ} → Ready file n m plan → (st moved : State) (inputs old new : List ℕ) {a : Answer}
+    → RowPlanned plan n m st moved inputs old new a → RowCalled file st moved inputs old new a
+row_file file {m = m} r st moved inputs old new p =
+    planned_called file _ r.verdict (settle_same file r st inputs old (m * clock_count inputs m)) (λ made. made file r) p

@@ -1,7 +1,7 @@
 -- What clocks in a row answer and leave. Their inputs stand one clock after the other, m bytes each.
 use Rattle.std.specs.Prelude.{ℕ, zero, suc, ◌*◌, ◌/◌, ◌≡◌, List, length, take, drop}
 use Rattle.lent.specs.Lent.{Lent, Shown, was, left, shown}
-use Rattle.slicefile.specs.declared.Answer.{Answer}
+use Rattle.slicefile.specs.Refusals.{Answer}
 use Rattle.column.specs.Clock.{State, state_was, state_left, Run}
 use Rattle.plan.specs.Plan.{Ready}
 use Rattle.buffers.specs.Buffers.{settle_refusal}

@@ -1,5 +1,6 @@
 -- The check of a file's records, step by step: a bad record decides, a good one leaves the rest to decide. Assumes nothing.
 use mathlib.Core.Path.{◌≡◌, ◌∙◌, refl, sym, ap, ap₂}
+use Rattle.std.specs.Prelude.{Ok, Err}
 use mathlib.Core.List.{List, []}
 use Prim.Native.Nat.{ℕ, zero, suc, ◌+◌, ◌-◌, ◌≤◌, ◌<◌}
 use native.Mathlib.Nat.{sub-zero}
@@ -7,33 +8,36 @@ use native.Mathlib.Omega.{arith}
 use lib.ListN.{length, take, drop, length-drop, drop_of_length-le}
 use lib.Seq.{take_all, drop-drop}
 use Rattle.slicefile.specs.Format.{slice_tag, record_length, slice_count, input_count}
+use Rattle.slicefile.specs.declared.Reason.{Reason}
+use Rattle.slicefile.specs.declared.Reason.TheVariants.{Cut}
+use Rattle.slicefile.specs.Refusals.{refused, Tested, Verdict}
 use Rattle.framing.specs.Framing.{header_refusal, slice_refusal, size_refusal}
 use Rattle.framing.proofs.RecordLaws.{slice_whole}
 use Rattle.column.specs.File.{record_start}
 use Rattle.column.specs.Check.{first_bad, check_end, check_slices, check_file, check_from, stop_at, pass_slices, passed_from, GoodBelow}
-use Rattle.column.specs.declared.Checked.{Checked}
-use Rattle.column.specs.declared.Checked.TheVariants.{Bad}
 use Rattle.column.proofs.Places.{size_inside, start_first, start_next}
 
-pub bad_first : (k place : ℕ) (rest : Checked) → (k ≡ 0 → ⊥) → Bad k place ≡ first_bad k place rest
-bad_first zero place rest ne = absurd (ne refl)
-bad_first (suc k) place rest ne = refl
+pub bad_first : (t : Tested) (place : ℕ) (rest : Verdict) {r : Reason} → t ≡ Err r → Err (refused r place) ≡ first_bad t place rest
+bad_first (Ok u) place rest e = absurd (cc e)
+bad_first (Err a) place rest {r} e =
+    let same : a ≡ r = cc in
+    ap (λ (q : Reason). Err (refused q place)) (sym same)
 
-pub good_first : (k place : ℕ) (rest : Checked) → k ≡ 0 → first_bad k place rest ≡ rest
-good_first zero place rest e = refl
-good_first (suc k) place rest e = absurd (omega arith)
+pub good_first : (t : Tested) (place : ℕ) (rest : Verdict) → t ≡ Ok tt → first_bad t place rest ≡ rest
+good_first (Ok u) place rest e = refl
+good_first (Err r) place rest e = absurd (cc e)
 
 -- a count stops at a bad record, and goes on after a good one
-count_stops : (k count on : ℕ) → (k ≡ 0 → ⊥) → count ≡ stop_at k count on
-count_stops zero count on ne = absurd (ne refl)
-count_stops (suc k) count on ne = refl
+count_stops : (t : Tested) (count on : ℕ) {r : Reason} → t ≡ Err r → count ≡ stop_at t count on
+count_stops (Ok u) count on e = absurd (cc e)
+count_stops (Err a) count on e = refl
 
-count_goes_on : (k count on : ℕ) → k ≡ 0 → stop_at k count on ≡ on
-count_goes_on zero count on e = refl
-count_goes_on (suc k) count on e = absurd (omega arith)
+count_goes_on : (t : Tested) (count on : ℕ) → t ≡ Ok tt → stop_at t count on ≡ on
+count_goes_on (Ok u) count on e = refl
+count_goes_on (Err r) count on e = absurd (cc e)
 
 -- where no bytes are left
-nothing_left : (n m left s at : ℕ) → check_slices n m left s at [] ≡ Bad 1 at
+nothing_left : (n m left s at : ℕ) → check_slices n m left s at [] ≡ Err (refused Cut at)
 unfolding check_slices check_end slice_refusal header_refusal
 nothing_left n m zero s at = refl
 nothing_left n m (suc left) s at = refl
@@ -62,12 +66,11 @@ module _ (file : List ℕ) where
     pub counts : passed_from from file ≡ pass_slices n m (n - s) s (drop at file)
 
   -- a bad size record decides
-  pub size_bad : (from : ℕ) {r : ℕ} → r ≡ size_refusal file → (r ≡ 0 → ⊥) → (Bad r 0 ≡ check_from from file) × (from ≡ passed_from from file)
+  pub size_bad : (from : ℕ) {r : Reason} → Err r ≡ size_refusal file → (Err (refused r 0) ≡ check_from from file) × (from ≡ passed_from from file)
   unfolding check_from passed_from
-  size_bad from e ne =
-      (ap (λ (k : ℕ). Bad k 0) e ∙ bad_first (size_refusal file) 0 _ (λ z. ne (e ∙ z)), count_stops (size_refusal file) from _ (λ z. ne (e ∙ z)))
+  size_bad from e = (bad_first (size_refusal file) 0 _ (sym e), count_stops (size_refusal file) from _ (sym e))
 
-  module _ (begins : size_refusal file ≡ 0) (s : ℕ) where
+  module _ (begins : size_refusal file ≡ Ok tt) (s : ℕ) where
     -- a check stands where it is taken up
     pub taken_up : record_start file s ≤ length file → Stands s s (record_start file s)
     unfolding check_from passed_from
@@ -75,7 +78,7 @@ module _ (file : List ℕ) where
         record { place = refl; inside = fit; decides = good_first (size_refusal file) 0 _ begins; counts = count_goes_on (size_refusal file) s _ begins }
 
     -- past the end there is nothing to take up
-    pub cut_off : length file < record_start file s → (Bad 1 (record_start file s) ≡ check_from s file) × (s ≡ passed_from s file)
+    pub cut_off : length file < record_start file s → (Err (refused Cut (record_start file s)) ≡ check_from s file) × (s ≡ passed_from s file)
     unfolding check_from passed_from
     cut_off short =
         let none : drop (record_start file s) file ≡ [] = drop_of_length-le file {i = record_start file s} (omega arith) in (
@@ -85,20 +88,20 @@ module _ (file : List ℕ) where
 
   module _ {from s at : ℕ} (here : Stands from s at) where
     -- the next slice is bad
-    pub slice_bad : s < n → {r : ℕ} → r ≡ slice_refusal n m s (drop at file) → (r ≡ 0 → ⊥) → (Bad r at ≡ check_from from file) × (s ≡ passed_from from file)
+    pub slice_bad : s < n → {r : Reason} → Err r ≡ slice_refusal n m s (drop at file) → (Err (refused r at) ≡ check_from from file) × (s ≡ passed_from from file)
     unfolding check_slices pass_slices
-    slice_bad l {r} e ne =
+    slice_bad l {r} e =
         let left : n - s ≡ suc (n - (s + 1)) = omega arith in
-        let b : Bad (slice_refusal n m s (drop at file)) at ≡ check_slices n m (suc (n - (s + 1))) s at (drop at file) = bad_first _ _ _ (λ z. ne (e ∙ z)) in
-        let c : s ≡ pass_slices n m (suc (n - (s + 1))) s (drop at file) = count_stops (slice_refusal n m s (drop at file)) s _ (λ z. ne (e ∙ z)) in
-        (rw (here.decides, left, ← b, e), rw (here.counts, left, ← c))
+        let b : Err (refused r at) ≡ check_slices n m (suc (n - (s + 1))) s at (drop at file) = bad_first _ _ _ (sym e) in
+        let c : s ≡ pass_slices n m (suc (n - (s + 1))) s (drop at file) = count_stops (slice_refusal n m s (drop at file)) s _ (sym e) in
+        (rw (here.decides, left, ← b), rw (here.counts, left, ← c))
 
     -- it is good
-    pub slice_good : s < n → {r : ℕ} → r ≡ slice_refusal n m s (drop at file) → r ≡ 0 → Stands from (s + 1) (at + record_length slice_tag)
+    pub slice_good : s < n → Ok tt ≡ slice_refusal n m s (drop at file) → Stands from (s + 1) (at + record_length slice_tag)
     unfolding check_slices pass_slices
-    slice_good l {r} e z =
+    slice_good l e =
         let next = at + record_length slice_tag in
-        let good = sym e ∙ z in
+        let good = sym e in
         let left : n - s ≡ suc (n - (s + 1)) = omega arith in
         let one : suc s ≡ s + 1 = omega arith in
         let rest : drop (record_length slice_tag) (drop at file) ≡ drop next file = drop-drop (record_length slice_tag) at file in
@@ -126,18 +129,18 @@ module _ (file : List ℕ) where
   from_start = rw (sub-zero, start_first file)
 
   -- ---- "the first bad record decides", at its first byte
-  module _ (begins : size_refusal file ≡ 0) where
+  module _ (begins : size_refusal file ≡ Ok tt) where
     -- behind good slices the check of the file stands at the next
     pub after_good : (s : ℕ) → s ≤ n → GoodBelow file s → Stands 0 s (record_start file s)
     after_good zero l good = taken_up begins 0 (rw (start_first file) (size_inside file begins))
     after_good (suc s) l good =
         let one : suc s ≡ s + 1 = omega arith in
-        rw (one, start_next file s) (slice_good (after_good s (omega arith) (λ i h. good i (omega arith))) (omega arith) refl (good s (omega arith)))
+        rw (one, start_next file s) (slice_good (after_good s (omega arith) (λ i h. good i (omega arith))) (omega arith) (sym (good s (omega arith))))
 
     -- the first bad slice is refused where its record begins
-    pub slice_refused : (s : ℕ) → s < n → GoodBelow file s
-        → let at = record_start file s in let k = slice_refusal n m s (drop at file) in (k ≡ 0 → ⊥) → check_file file ≡ Bad k at
-    slice_refused s l good bad = sym ((slice_bad (after_good s (omega arith) good) l refl bad).0 ∙ from_start)
+    pub slice_refused : (s : ℕ) {r : Reason} → s < n → GoodBelow file s
+        → let at = record_start file s in slice_refusal n m s (drop at file) ≡ Err r → check_file file ≡ Err (refused r at)
+    slice_refused s l good bad = sym ((slice_bad (after_good s (omega arith) good) l (sym bad)).0 ∙ from_start)
 
     -- and after good slices the end record decides
     pub end_decides : GoodBelow file n → let at = record_start file n in check_file file ≡ check_end n m at (drop at file)

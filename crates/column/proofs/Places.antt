@@ -1,5 +1,6 @@
 -- Where the records of a file stand. Laws above speak of `size_length` and `record_start`; what they are in numbers is said here. Assumes nothing.
 use mathlib.Core.Path.{◌≡◌, refl}
+use Rattle.std.specs.Prelude.{Ok}
 use mathlib.Core.List.{List, ◌++◌}
 use Prim.Native.Nat.{ℕ, ◌+◌, ◌*◌, ◌≤◌, ◌<◌}
 use native.Mathlib.Omega.{arith}
@@ -31,7 +32,7 @@ module _ (file : List ℕ) where
   -- ---- from record to record
 
   -- a good size record is inside the file
-  pub size_inside : size_refusal file ≡ 0 → size_length file ≤ length file
+  pub size_inside : size_refusal file ≡ Ok tt → size_length file ≤ length file
   size_inside good = rw size_length_lem (size_whole file good)
 
   -- the first slice stands behind the size record, each other one behind the slice before it

@@ -1,5 +1,6 @@
 -- What a file with sound records is: its length, its n and m, and each slice's record. Assumes nothing.
-use mathlib.Core.Path.{◌≡◌, refl}
+use mathlib.Core.Path.{◌≡◌, refl, ap}
+use Rattle.std.specs.Prelude.{Ok, Err}
 use mathlib.Core.List.{List}
 use Prim.Native.Nat.{ℕ, zero, suc, ◌+◌, ◌-◌, ◌*◌, ◌≤◌, ◌<◌}
 use native.Mathlib.Nat.{zero-add, add-zero, add-sub_cancel_left}
@@ -9,44 +10,51 @@ use lib.Dec.{ltb}
 use lib.ListN.{length, take, drop, length-drop}
 use lib.Seq.{drop-drop, length-take-le}
 use Rattle.slicefile.specs.Format.{slice_limit, input_limit, size_tag, slice_tag, end_tag, head_length, body_length, record_length, slice_count, input_count}
+use Rattle.slicefile.specs.declared.Reason.TheVariants.{BytesAfterEnd}
+use Rattle.slicefile.specs.declared.Size.{Size}
+use Rattle.slicefile.specs.Refusals.{sized, Tested, Verdict}
 use Rattle.rules.specs.Rules.{given, body_refusal}
 use Rattle.framing.specs.Framing.{header_refusal, slice_refusal, size_refusal}
 use Rattle.rules.proofs.Refusals.{given_none, or_else_right}
 use Rattle.framing.proofs.RecordLaws.{header_whole, slice_whole, size_tells}
 use Rattle.column.specs.File.{size_length, slice_tag_of, record_start, file_length, slice_body}
 use Rattle.column.specs.Check.{first_bad, check_end, check_slices, check_file}
-use Rattle.column.specs.declared.Checked.{Checked}
-use Rattle.column.specs.declared.Checked.TheVariants.{Sound}
 use Rattle.column.proofs.Places.{start_from, start_at, size_inside, start_before, drop_start}
 
-pub sound_first : (k place : ℕ) (rest : Checked) {n m : ℕ} → first_bad k place rest ≡ Sound n m → (k ≡ 0) × (rest ≡ Sound n m)
-sound_first zero place rest e = (refl, e)
-sound_first (suc k) place rest e = let z : ◌≡◌ {A = ℕ} 0 1 = cc in absurd (omega arith)
+pub sound_first : (t : Tested) (place : ℕ) (rest : Verdict) {size : Size} → first_bad t place rest ≡ Ok size → (t ≡ Ok tt) × (rest ≡ Ok size)
+sound_first (Ok u) place rest e = (refl, e)
+sound_first (Err r) place rest e = absurd (cc e)
 
 -- the slice records from s on, of which some are left: each is good, and the end record ends the bytes
-record SoundSlices (n m left s : ℕ) (bytes : List ℕ) (i j : ℕ) : Type 0 where
+record SoundSlices (n m left s : ℕ) (bytes : List ℕ) (end : Size) : Type 0 where
   pub size : length bytes ≡ record_length slice_tag * left + record_length end_tag
-  pub count : n ≡ i
-  pub inputs : m ≡ j
-  pub each : (k : ℕ) → k < left → slice_refusal n m (s + k) (drop (record_length slice_tag * k) bytes) ≡ 0
-  pub ends : header_refusal end_tag (drop (record_length slice_tag * left) bytes) ≡ 0
+  pub count : n ≡ end.n
+  pub inputs : m ≡ end.m
+  pub each : (k : ℕ) → k < left → slice_refusal n m (s + k) (drop (record_length slice_tag * k) bytes) ≡ Ok tt
+  pub ends : header_refusal end_tag (drop (record_length slice_tag * left) bytes) ≡ Ok tt
 
-sound_end : (n m place : ℕ) (bytes : List ℕ) {i j : ℕ} → check_end n m place bytes ≡ Sound i j → (length bytes ≡ record_length end_tag) × (Sound n m ≡ Sound i j) × (header_refusal end_tag bytes ≡ 0)
+sound_end : (n m place : ℕ) (bytes : List ℕ) {size : Size} → check_end n m place bytes ≡ Ok size → (length bytes ≡ record_length end_tag) × (sized n m ≡ size) × (header_refusal end_tag bytes ≡ Ok tt)
 unfolding check_end
 sound_end n m place bytes e =
     let a = sound_first (header_refusal end_tag bytes) place _ e in
-    let b = sound_first (given 8 (ltb (record_length end_tag) (length bytes))) (place + record_length end_tag) (Sound n m) a.1 in
-    (omega (arith, header_whole end_tag bytes a.0, ltb-false (record_length end_tag) (length bytes) (given_none 7 _ b.0)), b.1, a.0)
+    let b = sound_first (given BytesAfterEnd (ltb (record_length end_tag) (length bytes))) (place + record_length end_tag) (Ok (sized n m)) a.1 in
+    (omega (arith, header_whole end_tag bytes a.0, ltb-false (record_length end_tag) (length bytes) (given_none BytesAfterEnd _ b.0)), cc b.1, a.0)
 
-sound_slices : (n m left s place : ℕ) (bytes : List ℕ) {i j : ℕ} → check_slices n m left s place bytes ≡ Sound i j → SoundSlices n m left s bytes i j
+sound_slices : (n m left s place : ℕ) (bytes : List ℕ) {size : Size} → check_slices n m left s place bytes ≡ Ok size → SoundSlices n m left s bytes size
 unfolding check_slices
 sound_slices n m zero s place bytes e =
     let a = sound_end n m place bytes e in
-    record { size = omega arith; count = cc a.1; inputs = cc a.1; each = λ k l. absurd (omega arith); ends = a.2 }
-sound_slices n m (suc left) s place bytes {i} {j} e =
+    record {
+      size = omega arith;
+      count = ap (λ (t : Size). t.n) a.1;
+      inputs = ap (λ (t : Size). t.m) a.1;
+      each = λ k l. absurd (omega arith);
+      ends = a.2;
+    }
+sound_slices n m (suc left) s place bytes {size} e =
     let next = drop (record_length slice_tag) bytes in
     let a = sound_first (slice_refusal n m s bytes) place _ e in
-    let r : SoundSlices n m left (suc s) next i j = sound_slices n m left (suc s) (place + record_length slice_tag) next a.1 in
+    let r : SoundSlices n m left (suc s) next size = sound_slices n m left (suc s) (place + record_length slice_tag) next a.1 in
     record {
       size = omega (arith, r.size, length-drop (record_length slice_tag) bytes, slice_whole n m s bytes a.0);
       count = r.count;
@@ -59,9 +67,9 @@ sound_slices n m (suc left) s place bytes {i} {j} e =
     more k = omega arith
 
     each_of :
-        slice_refusal n m s bytes ≡ 0
-        → ((k : ℕ) → k < left → slice_refusal n m (suc s + k) (drop (record_length slice_tag * k) (drop (record_length slice_tag) bytes)) ≡ 0)
-        → (k : ℕ) → k < suc left → slice_refusal n m (s + k) (drop (record_length slice_tag * k) bytes) ≡ 0
+        slice_refusal n m s bytes ≡ Ok tt
+        → ((k : ℕ) → k < left → slice_refusal n m (suc s + k) (drop (record_length slice_tag * k) (drop (record_length slice_tag) bytes)) ≡ Ok tt)
+        → (k : ℕ) → k < suc left → slice_refusal n m (s + k) (drop (record_length slice_tag * k) bytes) ≡ Ok tt
     each_of here later zero l = rw add-zero here
     each_of here later (suc k) l =
         let f : s + suc k ≡ suc s + k = omega arith in
@@ -75,17 +83,17 @@ pub record SoundFile (file : List ℕ) (n m : ℕ) : Type 0 where
   pub some : 1 ≤ n
   pub slices_fit : n ≤ slice_limit
   pub inputs_fit : m ≤ input_limit
-  pub begins : size_refusal file ≡ 0
-  pub each : (s : ℕ) → s < n → slice_refusal n m s (drop (record_start file s) file) ≡ 0
-  pub ends : header_refusal end_tag (drop (record_start file n) file) ≡ 0
+  pub begins : size_refusal file ≡ Ok tt
+  pub each : (s : ℕ) → s < n → slice_refusal n m s (drop (record_start file s) file) ≡ Ok tt
+  pub ends : header_refusal end_tag (drop (record_start file n) file) ≡ Ok tt
 
-pub sound_file : (file : List ℕ) {n m : ℕ} → check_file file ≡ Sound n m → SoundFile file n m
+pub sound_file : (file : List ℕ) {size : Size} → check_file file ≡ Ok size → SoundFile file size.n size.m
 unfolding check_file
-sound_file file {n} {m} e =
+sound_file file {size} e =
     let a = sound_first (size_refusal file) 0 _ e in
     let w = size_tells file a.0 in
     let first = drop (size_length file) file in
-    let r : SoundSlices (slice_count file) (input_count file) (slice_count file) 0 first n m = sound_slices (slice_count file) (input_count file) (slice_count file) 0 (size_length file) first a.1 in
+    let r : SoundSlices (slice_count file) (input_count file) (slice_count file) 0 first size = sound_slices (slice_count file) (input_count file) (slice_count file) 0 (size_length file) first a.1 in
     record {
       size = rw (← r.count) (omega (arith, r.size, length-drop (size_length file) file, size_inside file a.0, start_from file (slice_count file)));
       count = r.count;
@@ -114,6 +122,6 @@ body_length_lem file f s l =
     length-take-le (body_length slice_tag) (drop head_length (drop (record_start file s) file)) (simp length-drop (omega (arith, record_inside file f s l)))
 
 -- the body of a slice keeps the rules
-pub body_good : (file : List ℕ) {n m : ℕ} → SoundFile file n m → (s : ℕ) → s < n → body_refusal n m s (slice_body file s) ≡ 0
+pub body_good : (file : List ℕ) {n m : ℕ} → SoundFile file n m → (s : ℕ) → s < n → body_refusal n m s (slice_body file s) ≡ Ok tt
 unfolding slice_refusal slice_body slice_tag_of
 body_good file f s l = or_else_right (header_refusal slice_tag _) _ (f.each s l)

@@ -2,6 +2,7 @@
 -- Assumes nothing.
 use mathlib.Core.Path.{◌≡◌, ◌∙◌, ap, ap₂, sym, subst}
 use mathlib.Core.Bool.{Bool, true, false, not, ◌&&◌}
+use Rattle.std.specs.Prelude.{Ok, Err}
 use mathlib.Core.List.{List, [], ◌∷◌, ◌++◌}
 use Prim.Native.Nat.{ℕ, zero, suc}
 use native.Mathlib.Omega.{arith}
@@ -10,11 +11,15 @@ use lib.ListN.{length, get_or, set, replicate}
 use Rattle.netlist.specs.Graph.{LoopFree}
 use Rattle.netlist.specs.Rule.{apply_gate, rule_of, sources_of, signals_in, reads_of, value_of}
 use Rattle.netlist.specs.Table.{signal_count}
+use Rattle.slicefile.specs.declared.Reason.{Reason}
+use Rattle.slicefile.specs.declared.Reason.TheVariants.{OnLoop}
+use Rattle.slicefile.specs.Refusals.{number, refused, sized, Verdict}
 use Rattle.slicefile.specs.Format.{slice_count}
 use Rattle.slicefile.specs.Lists.{any_below, tabulate}
 use Rattle.slicefile.specs.Driver.{driver_of}
 use Rattle.rules.specs.Rules.{letter_choice, bad_choice, letter_combination, bad_combination, bad_driver, body_refusal}
 use Rattle.framing.specs.Framing.{header_refusal, bad_size, slice_refusal, size_refusal}
+use Rattle.slicefile.proofs.Reasons.{named, same_reason}
 use Rattle.slicefile.proofs.Tests.{and_left, and_right}
 use Rattle.sources.specs.Sources.{pin_source}
 use Rattle.series7.specs.Signals.{pins_of, start_source, carry_in, carry_source, wide_gate, family_gate, slice_gate}
@@ -24,10 +29,6 @@ use Rattle.column.specs.Check.{check_end, check_slices, check_file}
 use Rattle.column.specs.Judge.{reads_at, Judged, bad, accepted, loop}
 use Rattle.column.specs.Clock.{State, env_of, power_up, clocked, SettledFor, Run}
 use Rattle.column.specs.Cases.{file_of, Outcome, Judgement, Ones, After, Row, ones_at, names, no_inputs, LeavesWord, Gives, Holds, Every, cases, up_from}
-use Rattle.column.specs.declared.Checked.{Checked}
-use Rattle.column.specs.declared.Checked.TheVariants.{Bad, Sound}
-use Rattle.column.specs.declared.Verdict.{Verdict}
-use Rattle.column.specs.declared.Verdict.TheVariants.{Refused, Accepted}
 use Rattle.column.proofs.Certificates.{and_both, all_below, all_at, ordered, chained, no_loop, chain_depends}
 use Rattle.column.proofs.Netlist.{settles_once}
 use Rattle.column.proofs.Runs.{still, clock_first, run_unique}
@@ -39,13 +40,16 @@ data Hint : Type 0 where
   order : List ℕ → Hint
   looped : ℕ → ℕ → List ℕ → List ℕ → List ℕ → Hint
 
-is_sound : Checked → ℕ → ℕ → Bool
-is_sound (Sound a b) n m = eqb a n && eqb b m
-is_sound (Bad a b) n m = false
+is_sound : Verdict → ℕ → ℕ → Bool
+is_sound (Ok size) n m = eqb size.n n && eqb size.m m
+is_sound (Err r) n m = false
 
-is_bad : Checked → ℕ → ℕ → Bool
-is_bad (Bad a b) k p = eqb a k && eqb b p
-is_bad (Sound a b) k p = false
+is_reason : Reason → Reason → Bool
+is_reason q r = (named q && named r) && eqb (number q) (number r)
+
+is_bad : Verdict → Reason → ℕ → Bool
+is_bad (Err q) r p = is_reason q.reason r && eqb q.place p
+is_bad (Ok size) r p = false
 
 -- a signal below the smallest on a loop: ordered, and not of the base
 aside : List ℕ → List ℕ → ℕ → Bool
@@ -61,12 +65,12 @@ free_ok : List ℕ → ℕ → List ℕ → Bool
 free_ok file n xs = ordered (reads_at file) xs [] && all_below (signal_count n) (names xs)
 
 judged_ok : List ℕ → Verdict → Hint → Bool
-judged_ok file (Accepted n m) records = false
-judged_ok file (Accepted n m) (order xs) = is_sound (check_file file) n m && free_ok file n xs
-judged_ok file (Accepted n m) (looped _ _ _ _ _) = false
-judged_ok file (Refused k p) records = is_bad (check_file file) k p
-judged_ok file (Refused k p) (order xs) = false
-judged_ok file (Refused k p) (looped n m ys base xs) = eqb k 9 && loop_ok file p n m ys base xs
+judged_ok file (Ok size) records = false
+judged_ok file (Ok size) (order xs) = is_sound (check_file file) size.n size.m && free_ok file size.n xs
+judged_ok file (Ok size) (looped _ _ _ _ _) = false
+judged_ok file (Err r) records = is_bad (check_file file) r.reason r.place
+judged_ok file (Err r) (order xs) = false
+judged_ok file (Err r) (looped n m ys base xs) = is_reason r.reason OnLoop && loop_ok file r.place n m ys base xs
 
 settled_ok : List ℕ → State → List ℕ → Bool
 settled_ok file st values =
@@ -107,17 +111,25 @@ all_ok (r ∷ rs) (h ∷ hs) = row_ok r h && all_ok rs hs
 
 -- ---- the law
 
-sound_by : (c : Checked) (n m : ℕ) → T (is_sound c n m) → c ≡ Sound n m
+sound_by : (v : Verdict) (n m : ℕ) → T (is_sound v n m) → v ≡ Ok (sized n m)
 unfolding is_sound
-sound_by (Sound a b) n m t = ap₂ Sound (eqb→eq a n (and_left (eqb a n) (eqb b m) t)) (eqb→eq b m (and_right (eqb a n) (eqb b m) t))
-sound_by (Bad a b) n m t = absurd t
+sound_by (Ok size) n m t =
+    ap₂ (λ (a b : ℕ). Ok (sized a b)) (eqb→eq size.n n (and_left (eqb size.n n) (eqb size.m m) t)) (eqb→eq size.m m (and_right (eqb size.n n) (eqb size.m m) t))
+sound_by (Err r) n m t = absurd t
 
-bad_by : (c : Checked) (k p : ℕ) → T (is_bad c k p) → c ≡ Bad k p
+reason_by : (q r : Reason) → T (is_reason q r) → q ≡ r
+unfolding is_reason
+reason_by q r t =
+    let n = and_left (named q && named r) (eqb (number q) (number r)) t in
+    same_reason q r (and_left (named q) (named r) n) (and_right (named q) (named r) n) (eqb→eq (number q) (number r) (and_right (named q && named r) (eqb (number q) (number r)) t))
+
+bad_by : (v : Verdict) (r : Reason) (p : ℕ) → T (is_bad v r p) → v ≡ Err (refused r p)
 unfolding is_bad
-bad_by (Bad a b) k p t = ap₂ Bad (eqb→eq a k (and_left (eqb a k) (eqb b p) t)) (eqb→eq b p (and_right (eqb a k) (eqb b p) t))
-bad_by (Sound a b) k p t = absurd t
+bad_by (Err q) r p t =
+    ap₂ (λ (a : Reason) (b : ℕ). Err (refused a b)) (reason_by q.reason r (and_left (is_reason q.reason r) (eqb q.place p) t)) (eqb→eq q.place p (and_right (is_reason q.reason r) (eqb q.place p) t))
+bad_by (Ok size) r p t = absurd t
 
-loop_by : (file : List ℕ) (p n m : ℕ) (ys base xs : List ℕ) → T (loop_ok file p n m ys base xs) → Judged file (Refused 9 p)
+loop_by : (file : List ℕ) (p n m : ℕ) (ys base xs : List ℕ) → T (loop_ok file p n m ys base xs) → Judged file (Err (refused OnLoop p))
 unfolding loop_ok aside
 loop_by file p n m ys base xs t =
     let reads = reads_at file in
@@ -142,16 +154,16 @@ free_by file n xs t x l d =
 
 judged_by : (file : List ℕ) (v : Verdict) (h : Hint) → T (judged_ok file v h) → Judged file v
 unfolding judged_ok
-judged_by file (Accepted n m) records t = absurd t
-judged_by file (Accepted n m) (order xs) t =
-    let s = and_both (is_sound (check_file file) n m) (free_ok file n xs) t in
-    accepted (sound_by (check_file file) n m s.0) (free_by file n xs s.1)
-judged_by file (Accepted n m) (looped _ _ _ _ _) t = absurd t
-judged_by file (Refused k p) records t = bad (bad_by (check_file file) k p t)
-judged_by file (Refused k p) (order xs) t = absurd t
-judged_by file (Refused k p) (looped n m ys base xs) t =
-    let s = and_both (eqb k 9) (loop_ok file p n m ys base xs) t in
-    subst (λ (j : ℕ). Judged file (Refused j p)) (sym (eqb→eq k 9 s.0)) (loop_by file p n m ys base xs s.1)
+judged_by file (Ok size) records t = absurd t
+judged_by file (Ok size) (order xs) t =
+    let s = and_both (is_sound (check_file file) size.n size.m) (free_ok file size.n xs) t in
+    accepted (sound_by (check_file file) size.n size.m s.0) (free_by file size.n xs s.1)
+judged_by file (Ok size) (looped _ _ _ _ _) t = absurd t
+judged_by file (Err r) records t = bad (bad_by (check_file file) r.reason r.place t)
+judged_by file (Err r) (order xs) t = absurd t
+judged_by file (Err r) (looped n m ys base xs) t =
+    let s = and_both (is_reason r.reason OnLoop) (loop_ok file r.place n m ys base xs) t in
+    subst (λ (q : Reason). Judged file (Err (refused q r.place))) (sym (reason_by r.reason OnLoop s.0)) (loop_by file r.place n m ys base xs s.1)
 
 settled_by : (file : List ℕ) (st : State) (values : List ℕ) → T (settled_ok file st values) → SettledFor file st [] values
 unfolding settled_ok
@@ -232,5 +244,5 @@ hints =
 
 -- cases 1 to 10
 pub cases_hold : Every cases
-unfolding any_below all_below tabulate cases hints levels all_ok row_ok gives_ok run_ok filled settled_ok judged_ok loop_ok free_ok aside is_bad is_sound order_of clocked next_word write_address next_flops next_bit main_source second_source power_up value_of apply_gate rule_of signals_in reads_of sources_of gate_at slice_gate family_gate wide_gate pins_of start_source carry_in carry_source pin_source slice_body record_start slice_tag_of size_length file_of check_file check_slices check_end size_refusal bad_size slice_refusal body_refusal bad_driver bad_combination letter_combination bad_choice letter_choice header_refusal driver_of
+unfolding any_below all_below tabulate cases hints levels all_ok row_ok gives_ok run_ok filled settled_ok judged_ok loop_ok free_ok aside is_bad is_reason is_sound order_of clocked next_word write_address next_flops next_bit main_source second_source power_up value_of apply_gate rule_of signals_in reads_of sources_of gate_at slice_gate family_gate wide_gate pins_of start_source carry_in carry_source pin_source slice_body record_start slice_tag_of size_length file_of check_file check_slices check_end size_refusal bad_size slice_refusal body_refusal bad_driver bad_combination letter_combination bad_choice letter_choice header_refusal driver_of
 cases_hold = every_by cases hints tt

@@ -1,12 +1,12 @@
 -- The worked cases 1 to 10, as edits of the base file Z, each with what it must give.
-use Rattle.std.specs.Prelude.{◌≡◌, Bool, false, ◌||◌, ℕ, ◌/◌, ◌%◌, List, [], ◌∷◌, ◌++◌, eqb, get_or, replicate}
+use Rattle.std.specs.Prelude.{◌≡◌, Ok, Err, Bool, false, ◌||◌, ℕ, ◌/◌, ◌%◌, List, [], ◌∷◌, ◌++◌, eqb, get_or, replicate}
 use Rattle.std.proofs.lemmas.List.Edits.{sets}
 use Rattle.netlist.specs.Rule.{bit}
 use Rattle.column.specs.Judge.{Judged}
+use Rattle.slicefile.specs.declared.Reason.TheVariants.{NoDriver, OnLoop}
 use Rattle.slicefile.specs.Lists.{tabulate}
+use Rattle.slicefile.specs.Refusals.{refused, sized, Verdict}
 use Rattle.column.specs.Clock.{power_up, SettledFor, Run}
-use Rattle.column.specs.declared.Verdict.{Verdict}
-use Rattle.column.specs.declared.Verdict.TheVariants.{Refused, Accepted}
 
 -- bytes to put into the slice's body, and from which offset
 pub record Edit : Type 0 where
@@ -102,28 +102,28 @@ row es v o = record { edits = es; verdict = v; outcome = o }
 unfoldable pub cases : List Row
 cases =
     -- 1
-    row [] (Accepted 1 0) (Ones [])
+    row [] (Ok (sized 1 0)) (Ones [])
     -- 2
-    ∷ row (at 10 (1 ∷ []) ∷ []) (Accepted 1 0) (Ones (0 ∷ 4 ∷ 12 ∷ 20 ∷ []))
+    ∷ row (at 10 (1 ∷ []) ∷ []) (Ok (sized 1 0)) (Ones (0 ∷ 4 ∷ 12 ∷ 20 ∷ []))
     -- 3
-    ∷ row (carry_one ∷ []) (Accepted 1 0) (Ones (12 ∷ []))
+    ∷ row (carry_one ∷ []) (Ok (sized 1 0)) (Ones (12 ∷ []))
     -- 4
-    ∷ row (carry_one ∷ all_ones ∷ []) (Accepted 1 0) (Ones (up_from 0 12 ++ up_from 16 3 ++ up_from 20 4))
+    ∷ row (carry_one ∷ all_ones ∷ []) (Ok (sized 1 0)) (Ones (up_from 0 12 ++ up_from 16 3 ++ up_from 20 4))
     -- 5
-    ∷ row (drive 62 4096 ∷ []) (Refused 9 0) Judgement
+    ∷ row (drive 62 4096 ∷ []) (Err (refused OnLoop 0)) Judgement
     -- 6
-    ∷ row (drive 62 4100 ∷ []) (Refused 9 4) Judgement
-    ∷ row (drive 72 4100 ∷ []) (Accepted 1 0) Judgement
+    ∷ row (drive 62 4100 ∷ []) (Err (refused OnLoop 4)) Judgement
+    ∷ row (drive 72 4100 ∷ []) (Ok (sized 1 0)) Judgement
     -- 7
-    ∷ row (drive 62 4104 ∷ []) (Accepted 1 0) Judgement
+    ∷ row (drive 62 4104 ∷ []) (Ok (sized 1 0)) Judgement
     -- 8
-    ∷ row (drive 62 3 ∷ []) (Refused 7 5) Judgement
-    ∷ row (drive 62 256 ∷ []) (Refused 7 5) Judgement
-    ∷ row (drive 62 4108 ∷ []) (Refused 7 5) Judgement
-    ∷ row (drive 62 4112 ∷ []) (Refused 7 5) Judgement
+    ∷ row (drive 62 3 ∷ []) (Err (refused NoDriver 5)) Judgement
+    ∷ row (drive 62 256 ∷ []) (Err (refused NoDriver 5)) Judgement
+    ∷ row (drive 62 4108 ∷ []) (Err (refused NoDriver 5)) Judgement
+    ∷ row (drive 62 4112 ∷ []) (Err (refused NoDriver 5)) Judgement
     -- 9
-    ∷ row shift_d (Accepted 1 0) (After 1 3 1)
-    ∷ row shift_d (Accepted 1 0) (After 32 3 4_294_967_295)
+    ∷ row shift_d (Ok (sized 1 0)) (After 1 3 1)
+    ∷ row shift_d (Ok (sized 1 0)) (After 32 3 4_294_967_295)
     -- 10
-    ∷ row memory_d (Accepted 1 0) (After 1 3 9_223_372_036_854_775_808)
+    ∷ row memory_d (Ok (sized 1 0)) (After 1 3 9_223_372_036_854_775_808)
     ∷ []

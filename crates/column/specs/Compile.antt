@@ -1,15 +1,13 @@
 -- A file compiled: its netlist in the gate table, and the answer of the search for loops.
-use Rattle.std.specs.Prelude.{ℕ, ◌+◌, ◌*◌, ◌<◌, ◌≡◌, List, get_or, take}
+use Rattle.std.specs.Prelude.{ℕ, ◌+◌, ◌*◌, ◌<◌, ◌≡◌, Result, Ok, Err, List, get_or, take}
 use Rattle.netlist.specs.Agree.{Agree}
 use Rattle.netlist.specs.Graph.{Ordered}
 use Rattle.toposort.specs.Answer.{OrderOrLoop}
 use Rattle.netlist.specs.Table.{row_length, signal_count, table_length, IsTable, gate_numbers, net_of, FlopsFirst, InRange}
-use Rattle.toposort.specs.declared.Sorted.{Sorted}
+use Rattle.slicefile.specs.Refusals.{sized, Verdict}
 use Rattle.slicefile.specs.Format.{slice_limit}
 use Rattle.column.specs.File.{gate_at}
 use Rattle.column.specs.Judge.{reads_at, Judged}
-use Rattle.column.specs.declared.Verdict.{Verdict}
-use Rattle.column.specs.declared.Verdict.TheVariants.{Refused, Accepted}
 
 -- the numbers of the gate table of the longest file
 abbrev pub table_limit : ℕ
@@ -25,14 +23,14 @@ abbrev pub Lowered : List ℕ → ℕ → List ℕ → Type 0
 Lowered file n table = LoweredTo file n table (signal_count n)
 
 -- besides, a topological order of the file's signals, or the smallest signal on a loop
-pub record Compiled (file : List ℕ) (n : ℕ) (table order : List ℕ) (r : Sorted) : Type 0 where
+pub record Compiled (file : List ℕ) (n : ℕ) (table order : List ℕ) (r : Result (Unit {0}) ℕ) : Type 0 where
   pub lowered : Lowered file n table
   pub sorted : OrderOrLoop (gate_at file) n order r
 
 -- what the calls on an accepted file run on: a gate table with the file's gates, its numbers in their range, and a topological order of its
 -- signals with the flip-flops first, at the front of two buffers
 pub record Ready (file : List ℕ) (n m : ℕ) (net order : List ℕ) : Type 0 where
-  pub verdict : Judged file (Accepted n m)
+  pub verdict : Judged file (Ok (sized n m))
   pub table : IsTable n (take (table_length n) net)
   pub lowered : Agree (net_of net n) (gate_at file) (signal_count n)
   pub ranges : InRange n m (take (table_length n) net)
@@ -41,5 +39,5 @@ pub record Ready (file : List ℕ) (n m : ℕ) (net order : List ℕ) : Type 0 w
 
 -- a file judged and loaded
 abbrev pub Loaded : List ℕ → List ℕ → List ℕ → Verdict → Type 0
-Loaded file net order (Refused k p) = Judged file (Refused k p)
-Loaded file net order (Accepted n m) = Ready file n m net order
+Loaded file net order (Err r) = Judged file (Err r)
+Loaded file net order (Ok size) = Ready file size.n size.m net order

@@ -6,7 +6,7 @@ use Prim.Native.Nat.{ℕ}
 use lib.Dec.{ltb}
 use lib.ListN.{length}
 use Rattle.netlist.specs.Rule.{Env}
-use Rattle.slicefile.specs.declared.Answer.{Answer}
+use Rattle.slicefile.specs.Refusals.{Answer}
 use Rattle.editlist.specs.Listed.{edit_limit, edits_in, listed_count, Listed}
 use Rattle.editlist.specs.declared.Edit.{Edit}
 use Rattle.editlist.proofs.Listing.{edits_long, edits_all}
@@ -34,10 +34,10 @@ module _ (file : List ℕ) (before after : Env) (es : List Edit) (words old new 
 
   many : ltb edit_limit (length es) ≡ true → {r : Answer} → EditsMade file before after listed old new r → EditsMade file before after es old new r
   many e (judged j kept) = judged j kept
-  many e (refused {n} {m} j z kept) =
-      refused j (ap (λ (b : Bool). edit_refusal b file (state_in before) before.inputs old n m) (bad_alike e n m) ∙ z) kept
-  many e (done {n} {m} j z d) =
-      absurd (true≢false (sym (too_long (bad_table file n) m es e) ∙ bad_alike e n m ∙ edit_argument _ file (state_in before) before.inputs old n m z))
+  many e (refused {size} j z kept) =
+      refused j (ap (λ (b : Bool). edit_refusal b file (state_in before) before.inputs old size.n size.m) (bad_alike e size.n size.m) ∙ z) kept
+  many e (done {size} j z d) =
+      absurd (true≢false (sym (too_long (bad_table file size.n) size.m es e) ∙ bad_alike e size.n size.m ∙ edit_argument _ file (state_in before) before.inputs old size.n size.m z))
 
   pub edits_listed : {r : Answer} → Listed es (listed_count (length es)) words → EditsMade file before after listed old new r → EditsMade file before after es old new r
   edits_listed {r} l c = by (ltb edit_limit (length es)) refl

@@ -4,7 +4,7 @@ use mathlib.Core.Bool.{Bool}
 use mathlib.Core.List.{List}
 use Prim.Native.Nat.{ℕ}
 use Rattle.netlist.specs.Rule.{Env}
-use Rattle.slicefile.specs.declared.Answer.{Answer}
+use Rattle.slicefile.specs.Refusals.{Answer}
 use Rattle.editlist.specs.declared.Edit.{Edit}
 use Rattle.plan.specs.Plan.{plan_edges, Ready}
 use Rattle.buffers.specs.Buffers.{edit_refusal, bad_table, bad_table_by}

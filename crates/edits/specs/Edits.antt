@@ -1,12 +1,13 @@
 -- What the edit call answers and leaves. "All are checked first; one bad edit (11) or more than 256 (11) changes nothing. The result is that of
 -- the edits made one after another, the same input twice included."
-use Rattle.std.specs.Prelude.{ℕ, ◌≡◌, Bool, false, ◌||◌, cond, List, [], ◌∷◌, map, eqb, ltb, length}
+use Rattle.std.specs.Prelude.{ℕ, ◌≡◌, Bool, ◌||◌, cond, List, map, eqb, ltb, length}
+use Rattle.std.specs.List.{list_any}
 use Rattle.lent.specs.Lent.{Lent, Shown, was, left, shown}
 use Rattle.netlist.specs.Rule.{Env, env}
 use Rattle.netlist.specs.Settle.{Edited}
 use Rattle.netlist.specs.Changes.{Change, OfInput, OfContents, changed_by, touches_any}
 use Rattle.netlist.specs.Table.{signal_count, net_of}
-use Rattle.slicefile.specs.declared.Answer.{Answer}
+use Rattle.slicefile.specs.Refusals.{Tested, Answer}
 use Rattle.editlist.specs.Listed.{edit_limit}
 use Rattle.editlist.specs.declared.Edit.{Edit}
 use Rattle.column.specs.Clock.{State, state_of}
@@ -33,8 +34,7 @@ abbrev pub bad_edit : (ℕ → ℕ → Bool) → ℕ → Edit → Bool
 bad_edit bad m e = ltb 1 e.kind || bad_change bad m (change_of e)
 
 abbrev pub any_bad : (ℕ → ℕ → Bool) → ℕ → List Edit → Bool
-any_bad bad m [] = false
-any_bad bad m (e ∷ es) = bad_edit bad m e || any_bad bad m es
+any_bad bad m es = list_any (bad_edit bad m) es
 
 -- "one bad edit (11) or more than 256 (11)"
 unfoldable pub bad_edits : (ℕ → ℕ → Bool) → ℕ → List Edit → Bool
@@ -45,7 +45,7 @@ abbrev pub state_in : Env → State
 state_in e = state_of e.contents e.flops
 
 -- the refusal of an edit call on a file, with the buffers as they were
-abbrev pub edits_refusal : List ℕ → Env → List Edit → List ℕ → ℕ → ℕ → ℕ
+abbrev pub edits_refusal : List ℕ → Env → List Edit → List ℕ → ℕ → ℕ → Tested
 edits_refusal file before es old n m = edit_refusal (bad_edits (bad_table file n) m es) file (state_in before) before.inputs old n m
 
 -- the value table that edits leave, for the contents and inputs after them: what depends on any change of the list is recomputed, all else keeps its
@@ -60,7 +60,7 @@ EditsMade file before after es old new =
     (λ n m. (after ≡ changed_by before (changes_of es)) × EditedFor file (changes_of es) after old new n)
 
 -- the same over a plan of n slices and m outside inputs, whatever file it stands for
-abbrev pub plan_refusal : List ℕ → ℕ → ℕ → Env → List Edit → List ℕ → ℕ
+abbrev pub plan_refusal : List ℕ → ℕ → ℕ → Env → List Edit → List ℕ → Tested
 plan_refusal plan n m before es old =
     edit_refusal_by (bad_edits (bad_table_by (plan_edges plan n) n) m es) (bad_words_by (plan_edges plan n) before.contents) (state_in before) before.inputs old n m
 
@@ -83,6 +83,6 @@ abbrev pub Edits : Shown → Lent → Shown → Lent → Lent → List Edit → 
 Edits file contents flops inputs values es =
     EditsMade (shown file) (env_was contents flops inputs) (env_left contents flops inputs) es (was values) (left values)
 
-abbrev pub PlanEdits : Shown → ℕ → ℕ → Lent → Shown → Lent → Lent → List Edit → Answer → Type 0
+abbrev pub PlanEdits : List ℕ → ℕ → ℕ → Lent → Shown → Lent → Lent → List Edit → Answer → Type 0
 PlanEdits plan n m contents flops inputs values es =
-    EditsPlanned (shown plan) n m (env_was contents flops inputs) (env_left contents flops inputs) es (was values) (left values)
+    EditsPlanned plan n m (env_was contents flops inputs) (env_left contents flops inputs) es (was values) (left values)

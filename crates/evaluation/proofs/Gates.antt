@@ -1,7 +1,7 @@
 -- What a signal's gate gives by the wires, by the head of its row in the gate table. Assumes nothing.
-use mathlib.Core.Path.{◌≡◌, refl}
+use mathlib.Core.Path.{◌≡◌}
 use mathlib.Core.List.{List}
-use Prim.Native.Nat.{ℕ, zero, suc, ◌+◌, ◌*◌, ◌%◌, ◌≤◌, ◌<◌}
+use Prim.Native.Nat.{ℕ, suc, ◌+◌, ◌*◌, ◌%◌, ◌≤◌, ◌<◌}
 use native.Mathlib.Omega.{arith}
 use borrow.Author.Tests.{lt-ltb, le-ltb, eq-eqb, ne_eqb}
 use lib.ListN.{get_or}
@@ -52,11 +52,3 @@ module _ (contents flops wires table : List ℕ) (n x : ℕ) where
       rule_same g h =
           let e : head ≡ select_head n + 2 = omega arith in
           simp (le-ltb _ _ a, le-ltb _ _ b, ne_eqb _ _ d, ne_eqb _ _ g, eq-eqb _ _ e, code_back)
-
--- a select goes by its three bits
-pub choose_by : {s s' a a' b b' : ℕ} → s ≡ s' → a ≡ a' → b ≡ b' → choose s a b ≡ choose s' a' b'
-choose_by p q r = rw (p, q, r)
-
-pub choose_other : (s a b : ℕ) → (s ≡ 0 → ⊥) → choose s a b ≡ a
-choose_other zero a b n = absurd (n refl)
-choose_other (suc s) a b n = refl

@@ -11,7 +11,7 @@ pub fn wire(wires: &[u8], number: u16) -> u8
     requires { (number < length wires.now) × Bits wires.now }
     ensures { (result ≡ get_or wires.now number 0) × (result < 2) }
 {
-    wires[number as usize]
+    wires[usize::from(number)]
 }
 
 // The number on the wires at the k numbers from place i, lowest first.
@@ -20,9 +20,7 @@ pub fn number_on(numbers: &[u16], i: usize, k: usize, wires: &[u8]) -> u8
     ensures { (result ≡ number_on wires.now numbers.now i k) × (result < 2 ^ k) }
 {
     let mut number: u8 = 0;
-    let mut j = k;
-    while 0 < j {
-        j -= 1;
+    for j in (0..k).rev() {
         let b = wire(wires, numbers[i + j]);
         number = b + 2 * number;
     }
@@ -44,7 +42,7 @@ pub fn gate_value(table: &[u16], n: usize, x: usize, contents: &[u64], wires: &[
     ensures { GateGives contents.now wires.now n x table.now result }
 {
     let at = netlist::ROW * x;
-    let head = table[at] as usize;
+    let head = usize::from(table[at]);
     if head < 4 * n {
         let k = number_on(table, at + 1, 6, wires);
         return lookup::contents_bit(contents, head, k);

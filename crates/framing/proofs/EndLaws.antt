@@ -2,6 +2,7 @@
 use mathlib.Core.Path.{◌≡◌, refl, ◌∙◌, sym, ap}
 use mathlib.Core.Bool.{true, ◌&&◌}
 use mathlib.Core.Logic.{◌↔◌}
+use Rattle.std.specs.Prelude.{Ok}
 use mathlib.Core.List.{List, [], ◌∷◌}
 use Prim.Native.Nat.{ℕ, ◌+◌, ◌*◌, ◌≤◌, ◌<◌}
 use native.Mathlib.Decide.{dec_lt}
@@ -21,11 +22,11 @@ pub record Ends (s : List ℕ) : Type 0 where
   pub second : byte_at s 1 ≡ 0
   pub third : byte_at s 2 ≡ 0
 
-ends_header : (s : List ℕ) → Ends s → header_refusal end_tag s ≡ 0
+ends_header : (s : List ℕ) → Ends s → header_refusal end_tag s ≡ Ok tt
 unfolding header_refusal
 ends_header s e = simp (le-ltb (length s) 3 e.room, e.first, e.second, e.third)
 
-header_ends : (s : List ℕ) → header_refusal end_tag s ≡ 0 → Ends s
+header_ends : (s : List ℕ) → header_refusal end_tag s ≡ Ok tt → Ends s
 header_ends s e =
     let h : Headed end_tag s = header_tells end_tag s e in
     let z : byte_at s 1 + 256 * byte_at s 2 ≡ 0 = h.told in
@@ -61,14 +62,14 @@ end_test s h =
     )
 
 -- the record in the paper's words: a header that is due an end record is not refused exactly where they begin the list
-pub end_bytes : (s : List ℕ) → header_refusal end_tag s ≡ 0 → take head_length s ≡ end_record
+pub end_bytes : (s : List ℕ) → header_refusal end_tag s ≡ Ok tt → take head_length s ≡ end_record
 end_bytes s e =
     let d : Ends s = header_ends s e in
     first_three s d.room ∙ simp (d.first, d.second, d.third)
 
-pub end_header : (s : List ℕ) → take head_length s ≡ end_record → header_refusal end_tag s ≡ 0
+pub end_header : (s : List ℕ) → take head_length s ≡ end_record → header_refusal end_tag s ≡ Ok tt
 end_header s e = at (dec_lt (length s) head_length)
   where
-    at : Dec (length s < head_length) → header_refusal end_tag s ≡ 0
+    at : Dec (length s < head_length) → header_refusal end_tag s ≡ Ok tt
     at (yes short) = absurd (no_end s short e)
     at (no long) = ends_header s (bytes_end s (omega arith) e)

@@ -6,8 +6,8 @@ ghost use Rattle.slicefile.specs.Format.{head_length, body_length, end_record};
 ghost use Rattle.framing.specs.Framing.{header_refusal, bad_size, slice_refusal, size_refusal};
 
 use slicefile::{
-    END, END_TAG, HEAD, INPUT_COUNT, INPUT_LIMIT, SIZE_BODY, SIZE_TAG, SLICE_BODY, SLICE_COUNT,
-    SLICE_LIMIT, SLICE_RECORD, SLICE_TAG,
+    END, END_TAG, HEAD, INPUT_COUNT, INPUT_LIMIT, Reason, SIZE_BODY, SIZE_TAG, SLICE_BODY,
+    SLICE_COUNT, SLICE_LIMIT, SLICE_RECORD, SLICE_TAG,
 };
 
 fn body_length(tag: usize) -> usize
@@ -22,44 +22,44 @@ fn body_length(tag: usize) -> usize
     0
 }
 
-// Refusals 1 to 4 of the record that begins the slice of bytes, up to its body being whole; 0 where there is none.
-pub fn header_refusal(due: usize, s: &[u8]) -> usize
+// Refusals 1 to 4 of the record that begins the slice of bytes, up to its body being whole.
+#[tactic(auto, unfolding(crate::specs::Framing::header_refusal))]
+pub fn header_refusal(due: usize, s: &[u8]) -> Result<(), Reason>
     ensures { result ≡ header_refusal due s.now }
 {
     if s.len() < HEAD {
-        return 1;
+        return Err(Reason::Cut);
     }
-    let tag = s[0] as usize;
+    let tag = usize::from(s[0]);
     let known = (SIZE_TAG <= tag) & (tag <= END_TAG);
     if !known {
-        return 2;
+        return Err(Reason::UnknownTag);
     }
     if tag != due {
-        return 4;
+        return Err(Reason::NotDue);
     }
     let len = body_length(due);
-    let told = slicefile::pair_at(s, 1) as usize;
+    let told = usize::from(slicefile::pair_at(s, 1));
     if told != len {
-        return 3;
+        return Err(Reason::WrongLength);
     }
     if s.len() < HEAD + len {
-        return 1;
+        return Err(Reason::Cut);
     }
-    0
+    Ok(())
 }
 
 // Refusals 1 to 7 of the record of the slice of a number, which begins the slice of bytes.
-pub fn slice_refusal(n: usize, m: usize, number: usize, s: &[u8]) -> usize
+#[tactic(auto, using(crate::proofs::RecordLaws::header_whole), unfolding(crate::specs::Framing::slice_refusal))]
+pub fn slice_refusal(n: usize, m: usize, number: usize, s: &[u8]) -> Result<(), Reason>
     ensures { result ≡ slice_refusal n m number s.now }
 {
-    let h = header_refusal(SLICE_TAG, s);
-    if h != 0 {
-        return h;
-    }
+    header_refusal(SLICE_TAG, s)?;
     rules::body_refusal(n, m, number, &s[HEAD..SLICE_RECORD])
 }
 
 // Rule 5 on a file's slice count and outside inputs.
+#[tactic(auto, unfolding(crate::specs::Framing::bad_size))]
 pub fn bad_size(n: usize, m: usize) -> bool
     ensures { result ≡ bad_size n m }
 {
@@ -67,19 +67,17 @@ pub fn bad_size(n: usize, m: usize) -> bool
 }
 
 // Refusals 1 to 5 of the size record, which begins the slice of bytes.
-pub fn size_refusal(s: &[u8]) -> usize
+#[tactic(auto, using(crate::proofs::RecordLaws::header_whole), unfolding(crate::specs::Framing::size_refusal))]
+pub fn size_refusal(s: &[u8]) -> Result<(), Reason>
     ensures { result ≡ size_refusal s.now }
 {
-    let h = header_refusal(SIZE_TAG, s);
-    if h != 0 {
-        return h;
-    }
-    let n = s[SLICE_COUNT] as usize;
-    let m = s[INPUT_COUNT] as usize;
+    header_refusal(SIZE_TAG, s)?;
+    let n = usize::from(s[SLICE_COUNT]);
+    let m = usize::from(s[INPUT_COUNT]);
     if bad_size(n, m) {
-        return 5;
+        return Err(Reason::OutsideList);
     }
-    0
+    Ok(())
 }
 
 // Whether the bytes begin with the end record.

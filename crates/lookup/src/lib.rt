@@ -9,9 +9,6 @@ pub fn contents_bit(contents: &[u64], table: usize, k: u8) -> u8
     requires { k < 64 }
     ensures { result ≡ bit_at (get_or contents.now table 0) k }
 {
-    if table < contents.len() {
-        ((contents[table] >> k) % 2) as u8
-    } else {
-        0
-    }
+    let word = contents.get(table).copied().unwrap_or(0);
+    ((word >> k) % 2) as u8
 }

@@ -1,4 +1,4 @@
-// One bit of a table's contents, by a mask: the promise of `lookup`, word for word, with other operations.
+// One bit of a table's contents, by a mask: the promise of `lookup`, word for word, with other operations. It stays a crate of its own, to be timed beside that.
 #![tactic(auto)]
 
 ghost use Rattle.std.specs.Prelude.{◌≡◌, ◌<◌, get_or};
@@ -9,10 +9,7 @@ pub fn contents_bit(contents: &[u64], table: usize, k: u8) -> u8
     requires { k < 64 }
     ensures { result ≡ bit_at (get_or contents.now table 0) k }
 {
-    if table < contents.len() {
-        let mask: u64 = 1 << k;
-        if contents[table] & mask == 0 { 0 } else { 1 }
-    } else {
-        0
-    }
+    let word = contents.get(table).copied().unwrap_or(0);
+    let mask: u64 = 1 << k;
+    u8::from(word & mask != 0)
 }

@@ -10,7 +10,7 @@ fn picked_bit(contents: &[u64], pick: u16, on: u8) -> u8
     ensures { (result ≡ picked contents.now pick on) × (result < 2) }
 {
     let k = ((pick % 64) as u8 + on) % 64;
-    lookup::contents_bit(contents, (pick / 64) as usize, k)
+    lookup::contents_bit(contents, usize::from(pick / 64), k)
 }
 
 // The sum of the bits that the picks name, each place moved on by the bit before it where the link is 1.
@@ -20,16 +20,14 @@ fn row(contents: &[u64], picks: &[u16], link: u8) -> u64
 {
     let mut sum: u64 = 0;
     let mut bit: u8 = 0;
-    let mut i = 0;
-    while i < picks.len() {
-        bit = picked_bit(contents, picks[i], link * bit);
-        sum += bit as u64;
-        i += 1;
+    for pick in picks {
+        bit = picked_bit(contents, *pick, link * bit);
+        sum += u64::from(bit);
     }
     sum
 }
 
-// Each look-up by itself.
+// Each look-up by itself. C has a name for each of the two, so the link is no parameter of theirs.
 pub fn lookups_apart(contents: &[u64], picks: &[u16]) -> u64
     ensures { result ≡ summed contents.now picks.now 0 (length picks.now) }
 {

@@ -67,11 +67,5 @@ pub fn put_row(table: &mut [u16], x: usize, row: [u16; ROW])
     ensures { table.new ≡ sets table.old (row_length * x) row }
 {
     let at = ROW * x;
-    table[at] = row[0];
-    table[at + 1] = row[1];
-    table[at + 2] = row[2];
-    table[at + 3] = row[3];
-    table[at + 4] = row[4];
-    table[at + 5] = row[5];
-    table[at + 6] = row[6];
+    table[at..at + ROW].copy_from_slice(&row);
 }

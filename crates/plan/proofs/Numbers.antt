@@ -8,8 +8,14 @@ use Rattle.lent.specs.Put.{Put, PutAll}
 use Rattle.lent.proofs.Putting.{put_as, put_more}
 use Rattle.clocknumbers.specs.Numbers.{edge_length, edge_numbers}
 use Rattle.clocknumbers.proofs.Table.{numbers_length, number_at}
+use Rattle.column.specs.Check.{IsSound}
 use Rattle.column.specs.File.{slice_body}
+use Rattle.column.proofs.SoundLaws.{SoundFile, sound_file}
 use Rattle.plan.specs.Plan.{edges_place, edges_of}
+
+-- a file's laws from its n and m, as contracts name them
+pub sound_for : (file : List ℕ) {n m : ℕ} → IsSound file n m → SoundFile file n m
+sound_for file e = sound_file file e
 
 -- the numbers of slice s at their index
 pub slice_at : (file : List ℕ) (n m s i : ℕ) → i < edge_length → get_or (edge_numbers n m s (slice_body file s)) i 0 ≡ edges_of file n m (edge_length * s + i)

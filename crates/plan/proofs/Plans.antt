@@ -1,12 +1,12 @@
 -- What a plan gives to those who run on it: a walk's table and order, the edges of all slices, and that the edge over its numbers is the file's.
 -- Assumes nothing.
 use mathlib.Core.Path.{◌≡◌, ◌∙◌, refl, sym, ap₂}
-use mathlib.Core.List.{List, ◌++◌}
+use mathlib.Core.List.{List}
 use mathlib.Core.Logic.{inl}
 use Prim.Native.Nat.{ℕ, ◌+◌, ◌*◌, ◌/◌, ◌%◌, ◌≤◌, ◌<◌}
 use native.Mathlib.Omega.{arith}
 use lib.ListN.{length, get_or, take, drop, length-drop}
-use lib.Seq.{length-take-le, take-append-le, get_or-take, get_or-drop, ext_get_or}
+use lib.Seq.{length-take-le, get_or-take, get_or-drop, ext_get_or}
 use Rattle.netlist.specs.Rule.{value_of}
 use Rattle.netlist.specs.Table.{signal_limit, signal_count, table_length, net_of, SourceFits}
 use Rattle.netlist.specs.Wires.{IsWires, wires_of, values_on, inputs_on, on_wire}
@@ -23,27 +23,12 @@ use Rattle.clockedge.specs.Moves.{EdgesFit, edge_at, flops_by, word_by, words_by
 use Rattle.clockedge.proofs.Laws.{edge_fits, flops_law, word_law}
 use Rattle.walks.specs.Walks.{Walkable}
 use Rattle.column.specs.Clock.{State, state_of, clocked}
-use Rattle.column.specs.Compile.{Ready as Netlisted, Loaded as NetLoaded}
-use Rattle.column.specs.declared.Verdict.{Verdict}
-use Rattle.column.specs.declared.Verdict.TheVariants.{Refused}
+use Rattle.column.specs.Compile.{Ready as Netlisted}
 use Rattle.column.specs.File.{slice_body, gate_at}
 use Rattle.column.proofs.SoundLaws.{SoundFile, sound_file, body_good}
 use Rattle.column.proofs.Verdicts.{accepted_sound}
-use Rattle.plan.specs.Plan.{edges_place, order_place, plan_limit, plan_table, plan_edges, plan_order, edges_of, Ready, Loaded, Runnable, clocked_by}
+use Rattle.plan.specs.Plan.{edges_place, order_place, plan_limit, plan_table, plan_edges, plan_order, edges_of, Ready, Runnable, clocked_by}
 use Rattle.plan.proofs.Numbers.{slice_at}
-
--- a netlist at the front of a longer buffer
-pub netlist_longer :
-    (file : List ℕ) {n m : ℕ} {net order : List ℕ} (rest : List ℕ) → table_length n ≤ length net → Netlisted file n m net order
-    → Netlisted file n m (net ++ rest) order
-netlist_longer file {n} {net = net} rest long r =
-    let e : take (table_length n) (net ++ rest) ≡ take (table_length n) net = take-append-le (table_length n) net rest long in
-    record { verdict = r.verdict; table = rw e r.table; lowered = rw e r.lowered; ranges = rw e r.ranges; ordered = r.ordered; flops = r.flops }
-
--- a refusal of the load below
-pub loaded_refused :
-    (file net order plan : List ℕ) {v : Verdict} {k p : ℕ} → v ≡ Refused k p → NetLoaded file net order v → Loaded file plan v
-loaded_refused file net order plan e l = rw e (rw e at l)
 
 -- what a plan that can be run on gives, part by part
 module _ {n m : ℕ} {plan : List ℕ} (r : Runnable n m plan) where
@@ -132,8 +117,9 @@ module _ (file : List ℕ) {n m : ℕ} {plan : List ℕ} (r : Ready file n m pla
 -- the edges' numbers and the order put behind the gate table
 pub completed :
     (file : List ℕ) {n m : ℕ} {turns old edged new : List ℕ} → Netlisted file n m old turns → length turns ≡ signal_limit → length old ≡ plan_limit
-    → Put (edges_of file n m) (edges_place n) (edge_length * n) old edged → PutAll (take (signal_count n) turns) (order_place n) edged new → Ready file n m new
-completed file {n} {m} {turns} {old} {edged} {new} r size long p q =
+    → Put (edges_of file n m) (edges_place n) (edge_length * n) old edged → {at : ℕ} → at ≡ order_place n → PutAll (take (signal_count n) turns) at edged new
+    → Ready file n m new
+completed file {n} {m} {turns} {old} {edged} {new} r size long p place put =
     record {
       verdict = r.verdict;
       room = omega (arith, fits, p.long, q.long);
@@ -146,6 +132,9 @@ completed file {n} {m} {turns} {old} {edged} {new} r size long p q =
       };
     }
   where
+    q : PutAll (take (signal_count n) turns) (order_place n) edged new
+    q = rw place at put
+
     fits : n ≤ 64
     fits = (sound_file file (accepted_sound file r.verdict)).slices_fit
 

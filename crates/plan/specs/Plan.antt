@@ -1,19 +1,18 @@
 -- What the calls on an accepted file run on, as one list of 16-bit numbers, 283 a slice: first the gate table, then the numbers of the slices'
 -- edges, then a topological order of the signals, the flip-flops first.
-use Rattle.std.specs.Prelude.{ℕ, ◌+◌, ◌*◌, ◌/◌, ◌%◌, ◌≤◌, ◌<◌, ◌≡◌, List, length, take, drop}
+use Rattle.std.specs.Prelude.{ℕ, ◌+◌, ◌*◌, ◌/◌, ◌%◌, ◌≤◌, ◌<◌, ◌≡◌, Ok, Err, List, length, take, drop}
 use Rattle.netlist.specs.Agree.{Agree}
 use Rattle.netlist.specs.Graph.{Ordered}
 use Rattle.netlist.specs.Table.{signal_count, table_length, input_room, net_of, FlopsFirst, InRange}
 use Rattle.netlist.specs.Wires.{IsWires, wires_of}
 use Rattle.slicefile.specs.Format.{slice_limit}
+use Rattle.slicefile.specs.Refusals.{sized, Verdict}
 use Rattle.clocknumbers.specs.Numbers.{edge_length, edge_number, edge_numbers}
 use Rattle.clockedge.specs.Moves.{EdgesFit, edge_at, words_by, bytes_by}
 use Rattle.walks.specs.Walks.{Walkable}
 use Rattle.column.specs.Clock.{State, state_of}
 use Rattle.column.specs.File.{slice_body, gate_at}
 use Rattle.column.specs.Judge.{reads_at, Judged}
-use Rattle.column.specs.declared.Verdict.{Verdict}
-use Rattle.column.specs.declared.Verdict.TheVariants.{Refused, Accepted}
 
 -- where the edges' numbers and the order begin in a plan of n slices, and its length; the longest file's
 abbrev pub edges_place : ℕ → ℕ
@@ -52,14 +51,14 @@ pub record Represents (file : List ℕ) (n m : ℕ) (plan : List ℕ) : Type 0 w
 
 -- an accepted file with its plan at the front of a buffer
 pub record Ready (file : List ℕ) (n m : ℕ) (plan : List ℕ) : Type 0 where
-  pub verdict : Judged file (Accepted n m)
+  pub verdict : Judged file (Ok (sized n m))
   pub room : plan_length n ≤ length plan
   pub represents : Represents file n m plan
 
 -- a file judged and loaded
 abbrev pub Loaded : List ℕ → List ℕ → Verdict → Type 0
-Loaded file plan (Refused k p) = Judged file (Refused k p)
-Loaded file plan (Accepted n m) = Ready file n m plan
+Loaded file plan (Err r) = Judged file (Err r)
+Loaded file plan (Ok size) = Ready file size.n size.m plan
 
 -- what a plan must have to be run on, whatever file it stands for: a table and an order to walk along, and edges whose sources are wires
 pub record Runnable (n m : ℕ) (plan : List ℕ) : Type 0 where

@@ -2,17 +2,19 @@
 #![tactic(auto)]
 
 ghost use Rattle.std.specs.Prelude.{◌≡◌, ◌+◌, ◌*◌, ◌≤◌, ◌<◌, length};
-ghost use Rattle.lent.specs.Put.{Put, PutAll};
+ghost use Rattle.lent.specs.Put.{Put};
 ghost use Rattle.clocknumbers.specs.Numbers.{edge_length};
 ghost use Rattle.netlist.specs.Table.{signal_limit};
 ghost use Rattle.column.specs.Check.{IsSound};
 ghost use Rattle.column.specs.Compile.{Ready as Netlisted};
-ghost use Rattle.plan.specs.Plan.{edges_place, plan_length, plan_limit, plan_table, plan_edges, plan_order, edges_of, Ready, Loaded};
+ghost use Rattle.plan.specs.Plan.{edges_place, plan_length, plan_limit, plan_table, plan_edges, plan_order, edges_of, Ready, Loaded, Runnable};
+ghost use Rattle.plan.specs.Props.{Runnable-prop};
 
 use clocknumbers::EDGE_LENGTH;
-use column::{TABLE_LIMIT, Verdict};
+use column::TABLE_LIMIT;
 use netlist::{SIGNAL_LIMIT, SLICE_NUMBERS, SLICE_SIGNALS};
-use slicefile::SLICE_LIMIT;
+use slicefile::{SLICE_LIMIT, Verdict};
+use sources::Slice;
 
 // The numbers of the longest file's plan.
 pub const PLAN_LIMIT: usize = (SLICE_NUMBERS + EDGE_LENGTH + SLICE_SIGNALS) * SLICE_LIMIT;
@@ -43,29 +45,49 @@ pub fn order(plan: &[u16], n: usize) -> &[u16]
     &plan[at..at + SLICE_SIGNALS * n]
 }
 
-// Copies numbers to a place.
-fn copy_to(to: &mut [u16], at: usize, from: &[u16])
-    requires { at + length from.now ≤ length to.old }
-    ensures { PutAll from.now at to.old to.new }
-{
-    let mut i = 0;
-    while i < from.len() {
-        to[at + i] = from[i];
-        i += 1;
+// A plan of n slices and m outside inputs that can be run on.
+#[derive(Clone, Copy)]
+pub struct Plan<'a> {
+    pub numbers: &'a [u16],
+    pub n: usize,
+    pub m: usize,
+    pub ghost runnable: { Runnable n m numbers.now } by { Runnable-prop n m numbers.now },
+}
+
+impl<'a> Plan<'a> {
+    // Its gate table.
+    pub fn table(&self) -> &'a [u16]
+        ensures { result.now ≡ plan_table self.now.numbers.now self.now.n }
+    {
+        table(self.numbers, self.n)
+    }
+
+    // The numbers of its slices' edges.
+    pub fn edges(&self) -> &'a [u16]
+        ensures { result.now ≡ plan_edges self.now.numbers.now self.now.n }
+    {
+        edges(self.numbers, self.n)
+    }
+
+    // Its order.
+    pub fn order(&self) -> &'a [u16]
+        ensures { result.now ≡ plan_order self.now.numbers.now self.now.n }
+    {
+        order(self.numbers, self.n)
     }
 }
 
 // Puts the numbers of the edges of a sound file's slices behind the gate table.
+#[tactic(auto, using(crate::proofs::Numbers::sound_for))]
 fn put_edges(file: &[u8], n: usize, m: usize, plan: &mut [u16])
     requires { IsSound file.now n m × (length plan.old ≡ plan_limit) }
     ensures { Put (edges_of file.now n m) (edges_place n) (edge_length * n) plan.old plan.new }
 {
-    let mut s = 0;
-    while s < n {
+    for s in 0..n {
         let body = column::slice_body(file, n, m, s);
-        let numbers = clocknumbers::edge_of(n, m, s, body);
-        copy_to(plan, SLICE_NUMBERS * n + EDGE_LENGTH * s, &numbers);
-        s += 1;
+        let slice = Slice { n, m, s, body };
+        let at = SLICE_NUMBERS * n + EDGE_LENGTH * s;
+        plan[at..at + EDGE_LENGTH].copy_from_slice(&clocknumbers::edge_of(&slice));
     }
 }
 
@@ -76,11 +98,9 @@ fn complete(file: &[u8], n: usize, m: usize, turns: &[u16], plan: &mut [u16])
     ensures { Ready file.now n m plan.new }
 {
     put_edges(file, n, m, plan);
-    copy_to(
-        plan,
-        (SLICE_NUMBERS + EDGE_LENGTH) * n,
-        &turns[..SLICE_SIGNALS * n],
-    );
+    let place = (SLICE_NUMBERS + EDGE_LENGTH) * n;
+    let count = SLICE_SIGNALS * n;
+    plan[place..place + count].copy_from_slice(&turns[..count]);
 }
 
 // Judges any bytes, and leaves the plan of an accepted file at the front of the buffer.
@@ -89,10 +109,7 @@ pub fn load(file: &[u8], plan: &mut [u16]) -> Verdict
     ensures { Loaded file.now plan.new result }
 {
     let mut turns = [0u16; SIGNAL_LIMIT];
-    let v = column::load(file, &mut plan[..TABLE_LIMIT], &mut turns);
-    let Verdict::Accepted { n, m } = v else {
-        return v;
-    };
-    complete(file, n, m, &turns, plan);
-    v
+    let size = column::load(file, &mut plan[..TABLE_LIMIT], &mut turns)?;
+    complete(file, size.n, size.m, &turns, plan);
+    Ok(size)
 }

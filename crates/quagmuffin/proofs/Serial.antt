@@ -2,21 +2,20 @@
 -- an answer and every word and byte left are is determined. Assumes nothing.
 use mathlib.Core.Path.{◌≡◌, ◌∙◌, refl, sym, ap, subst}
 use mathlib.Core.Bool.{Bool, true, false}
+use Rattle.std.specs.Prelude.{Some, None, Ok, Err}
 use mathlib.Core.List.{List, ◌∷◌, ◌++◌}
 use Prim.Native.Nat.{ℕ, zero, suc, ◌<◌}
 use native.Mathlib.Omega.{arith}
 use borrow.Author.Tests.{eq-eqb, ne_eqb}
 use lib.Dec.{eqb}
 use lib.ListN.{length, get_or, take}
+use Rattle.slicefile.specs.declared.Size.{Size}
+use Rattle.slicefile.specs.Refusals.{Verdict}
 use Rattle.column.specs.File.{file_limit}
 use Rattle.column.specs.Judge.{Judged}
-use Rattle.column.specs.declared.Verdict.{Verdict}
-use Rattle.column.specs.declared.Verdict.TheVariants.{Refused, Accepted}
-use Rattle.stream.specs.declared.Reply.{Reply}
-use Rattle.stream.specs.declared.Reply.TheVariants.{More, Given}
 use Rattle.stream.specs.declared.Reader.{Reader}
 use Rattle.stream.specs.declared.Fed.{Fed}
-use Rattle.stream.specs.Feeding.{reader, foreign, Keeps, Feeds}
+use Rattle.stream.specs.Feeding.{Reply, reader, foreign, Keeps, Feeds}
 use Rattle.stream.specs.Sessions.{Owed, Call, Session, silence as none, call as one, joined, first_verdict, Follows, no_call}
 use Rattle.stream.proofs.Calls.{wrong_told, again_told, strange_told}
 use Rattle.stream.proofs.AnyState.{accepted_kept}
@@ -29,14 +28,14 @@ use Rattle.quagmuffin.proofs.Words.{told_more, told_verdict, reply_again, words_
 
 -- ---- answers and words, unpacked
 not_zero : (v : Verdict) → SmallVerdict v → pack_verdict v ≡ 0 → ⊥
-not_zero (Refused k p) s e = omega (arith, s.0)
-not_zero (Accepted n m) s e = omega (arith, s.0)
+not_zero (Err r) s e = omega (arith, s.0)
+not_zero (Ok size) s e = omega (arith, s.0)
 
 abbrev Back : Reply → Type 0
 Back reply = unpack_reply (pack_reply reply) ≡ reply
 
-small_back : (v : Verdict) → SmallVerdict v → Back (Given v)
-small_back v s = told_verdict (pack_verdict v) (not_zero v s) ∙ ap Given (verdict_back v s)
+small_back : (v : Verdict) → SmallVerdict v → Back (Some v)
+small_back v s = told_verdict (pack_verdict v) (not_zero v s) ∙ ap Some (verdict_back v s)
 
 module _ {state store run : List ℕ} {last answer : ℕ} {words after : List ℕ} where
   -- a state of its length
@@ -87,8 +86,8 @@ module _ {state store run : List ℕ} {last answer : ℕ} {words after : List �
       state_strange z e = stays (strange_told full (told_more (get_or state 2 0) z) e w.feeds)
 
     -- whatever the state: what is accepted the judge accepts, and it is the front of the store, of so many bytes as the first word says
-    pub accepted_front : {n m : ℕ} → get_or state 2 0 ≡ 0 → unpack_reply answer ≡ Given (Accepted n m)
-        → let bytes = take (get_or state 0 0) store ++ run in Judged bytes (Accepted n m) × (take (get_or words 0 0) after ≡ bytes)
+    pub accepted_front : {size : Size} → get_or state 2 0 ≡ 0 → unpack_reply answer ≡ Some (Ok size)
+        → let bytes = take (get_or state 0 0) store ++ run in Judged bytes (Ok size) × (take (get_or words 0 0) after ≡ bytes)
     accepted_front z e =
         let a = accepted_kept (reader_of state) store run (is_last last) w.fed after (sym (answer_told w) ∙ e) (told_more (get_or state 2 0) z) w.feeds in
         (a.0, ap (λ (l : List ℕ). take (get_or l 0 0) after) w.hands ∙ a.1)
@@ -104,13 +103,13 @@ serial_session {state} {store} e (call {words = words} {after = after} {c = c} {
 
 -- from three zeros the reply to each call is the first verdict given before it, else what is owed on the runs up to it, joined
 pub serial : (store : List ℕ) {calls : List Call} {replies : List Reply} → length store ≡ file_limit → Serial fresh_words store calls replies
-    → (k : ℕ) → k < length calls → Follows (first_verdict (take k replies)) (joined (take (suc k) calls)) (get_or calls k no_call).last (get_or replies k More)
+    → (k : ℕ) → k < length calls → Follows (first_verdict (take k replies)) (joined (take (suc k) calls)) (get_or calls k no_call).last (get_or replies k None)
 serial store full s = session store full (serial_session refl s)
 
 -- and up to the sender's last word, and with it, what is owed on all runs so far, also where the verdict was given before
 pub serial_owed : (store : List ℕ) {calls : List Call} {replies : List Reply} → length store ≡ file_limit → Serial fresh_words store calls replies
     → (k : ℕ) → k < length calls → ((i : ℕ) → i < k → (get_or calls i no_call).last ≡ false)
-    → Owed (joined (take (suc k) calls)) (get_or calls k no_call).last (get_or replies k More)
+    → Owed (joined (take (suc k) calls)) (get_or calls k no_call).last (get_or replies k None)
 serial_owed store full s = session_owed store full (serial_session refl s)
 
 -- ---- the numbers of a reader's refusals
@@ -119,7 +118,7 @@ small_told : {state store run : List ℕ} {last answer : ℕ} {words after : Lis
 small_told {state} {store} {run} {last} {after = after} w s = feeds_all SmallReply (λ v small. small) tt (reader_of state) store run (is_last last) w.fed after s w.feeds
 
 small_from : {state store : List ℕ} {calls : List Call} {replies : List Reply} → length state ≡ state_length → SmallReply (reader_of state).said → Serial state store calls replies
-    → (k : ℕ) → SmallReply (get_or replies k More)
+    → (k : ℕ) → SmallReply (get_or replies k None)
 small_from e s silence k = tt
 small_from e s (call l f rest) zero =
     let w = words_told e f in
@@ -129,7 +128,7 @@ small_from e s (call l f rest) (suc k) =
     small_from (ap length w.hands) (subst SmallReply (ap (λ (r : Reader). r.said) (sym (state_told w))) (small_told w s).1) rest k
 
 -- from three zeros they are 1 to 11, at a place of at most 8,136
-pub serial_small : (store : List ℕ) {calls : List Call} {replies : List Reply} → Serial fresh_words store calls replies → (k : ℕ) → SmallReply (get_or replies k More)
+pub serial_small : (store : List ℕ) {calls : List Call} {replies : List Reply} → Serial fresh_words store calls replies → (k : ℕ) → SmallReply (get_or replies k None)
 serial_small store s = small_from refl tt s
 
 -- ---- determined

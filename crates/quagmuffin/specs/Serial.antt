@@ -1,35 +1,39 @@
 -- The reader as three words: bytes kept, slices passed, the packed verdict (0: none yet); three zeros are a fresh reader.
-use Rattle.std.specs.Prelude.{ℕ, ◌≡◌, Bool, true, false, cond, not, List, [], ◌∷◌, eqb, length, get_or}
-use Rattle.stream.specs.declared.Reply.{Reply}
-use Rattle.stream.specs.declared.Reply.TheVariants.{More, Given}
+use Rattle.std.specs.Prelude.{ℕ, ◌≡◌, Bool, true, false, cond, not, Option, Some, None, List, [], ◌∷◌, eqb, length, get_or}
+use Rattle.slicefile.specs.declared.Reason.TheVariants.{WrongBuffer}
+use Rattle.slicefile.specs.Refusals.{refused}
 use Rattle.stream.specs.declared.Reader.{Reader}
 use Rattle.stream.specs.declared.Fed.{Fed}
-use Rattle.stream.specs.Feeding.{reader, Feeds}
+use Rattle.stream.specs.Feeding.{Reply, reader, Feeds}
 use Rattle.stream.specs.Sessions.{Call}
-use Rattle.quagmuffin.specs.Packed.{pack, pack_verdict, unpack_verdict, Fits, SmallVerdict}
+use Rattle.quagmuffin.specs.Packed.{pack_refusal, pack_verdict, unpack_verdict, Fits, SmallVerdict}
 
 abbrev pub state_length : ℕ
 state_length = 3
 
 -- 0 is "more": an accepted file has a slice at least, so its number is not 0
 abbrev pub pack_reply : Reply → ℕ
-pack_reply More = 0
-pack_reply (Given v) = pack_verdict v
+pack_reply None = 0
+pack_reply (Some v) = pack_verdict v
 
 abbrev pub unpack_reply : ℕ → Reply
-unpack_reply i = cond (eqb i 0) More (Given (unpack_verdict i))
+unpack_reply i = cond (eqb i 0) None (Some (unpack_verdict i))
 
 abbrev pub FitsReply : Reply → Type 0
-FitsReply More = Unit {0}
-FitsReply (Given v) = Fits v
+FitsReply None = Unit {0}
+FitsReply (Some v) = Fits v
 
 -- a refusal of 1 to 11 at a place within the longest file, or a file within the limits
 abbrev pub SmallReply : Reply → Type 0
-SmallReply More = Unit {0}
-SmallReply (Given v) = SmallVerdict v
+SmallReply None = Unit {0}
+SmallReply (Some v) = SmallVerdict v
 
 abbrev pub reader_of : List ℕ → Reader
 reader_of words = reader (get_or words 0 0) (get_or words 1 0) (unpack_reply (get_or words 2 0))
+
+-- where the state has its length
+abbrev pub loaded : List ℕ → Option Reader
+loaded words = cond (eqb (length words) state_length) (Some (reader_of words)) None
 
 abbrev pub words_of : Reader → List ℕ
 words_of r = r.len ∷ r.passed ∷ pack_reply r.said ∷ []
@@ -47,7 +51,7 @@ pub record FedWords (state store run : List ℕ) (last answer : ℕ) (words afte
 
 -- by whether the state has its length: another is 10, and nothing moves
 abbrev pub WordsBy : Bool → List ℕ → List ℕ → List ℕ → ℕ → ℕ → List ℕ → List ℕ → Type 0
-WordsBy false state store run last answer words after = (answer ≡ pack 10 0) × (words ≡ state) × (after ≡ store)
+WordsBy false state store run last answer words after = (answer ≡ pack_refusal (refused WrongBuffer 0)) × (words ≡ state) × (after ≡ store)
 WordsBy true state store run last answer words after = FedWords state store run last answer words after
 
 pub record FeedsWords (state store run : List ℕ) (last answer : ℕ) (words after : List ℕ) : Type 0 where

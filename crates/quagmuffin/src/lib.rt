@@ -1,41 +1,35 @@
 // The exported library: each call takes slices and numbers, and answers one number, the answer of the call below it, packed.
 #![tactic(auto)]
 
-ghost use Rattle.std.specs.Prelude.{◌≡◌, ◌<◌, ◌^◌, length};
-ghost use Rattle.slicefile.specs.Format.{slice_tag, body_length};
+ghost use Rattle.std.specs.Prelude.{◌≡◌};
 ghost use Rattle.column.specs.Judge.{Judged};
 ghost use Rattle.calls.specs.Calls.{PowersUp};
 ghost use Rattle.simulator.specs.Running.{Settles, Clocks};
-ghost use Rattle.editlist.specs.Listed.{edits_in};
 ghost use Rattle.edits.specs.Edits.{Edits};
-ghost use Rattle.quagmuffin.specs.Bodies.{ReadInto, RecordRead, RecordWritten};
-ghost use Rattle.quagmuffin.specs.Packed.{pack, pack_answer, pack_verdict, unpack_verdict, Fits, SmallAnswer, Packed, Answered};
-ghost use Rattle.quagmuffin.specs.Serial.{state_length, pack_reply, unpack_reply, FitsReply, reader_of, words_of, FeedsWords};
+ghost use Rattle.quagmuffin.specs.Bodies.{ReadInto, WrittenFrom, RecordRead, RecordWritten};
+ghost use Rattle.quagmuffin.specs.Packed.{pack_refusal, pack_answer, pack_verdict, unpack_verdict, FitsRefusal, Fits, SmallAnswer, Packed, Answered};
+ghost use Rattle.quagmuffin.specs.Serial.{pack_reply, unpack_reply, FitsReply, loaded, words_of, FeedsWords};
 
-use column::Verdict;
-use editlist::{Edit, LIST_WORDS};
-use slicefile::{Answer, HEAD, SLICE_BODY, SLICE_RECORD};
-use stream::{Reader, Reply};
+use editlist::Edit;
+use slicefile::{HEAD, Reason, Refusal, SLICE_BODY, SLICE_RECORD, Size, Verdict};
+use stream::{Fed, Reader};
 
-// The words of a reader's state.
-const STATE: usize = 3;
-
-// A number in the low 8 bits, and what stands above it.
-fn pack_number(number: usize, above: usize) -> u64
-    requires { (number < 256) × (above < 2 ^ 56) }
-    ensures { result ≡ pack number above }
+// A refusal: its number in the low 8 bits, and above them its place.
+fn pack_refusal(refusal: Refusal) -> u64
+    requires { FitsRefusal refusal }
+    ensures { result ≡ pack_refusal refusal }
 {
-    (number + 256 * above) as u64
+    (usize::from(refusal.reason) + 256 * refusal.place) as u64
 }
 
 // A call's answer.
-pub fn pack_answer(answer: Answer) -> u64
+pub fn pack_answer(answer: Result<(), Refusal>) -> u64
     requires { SmallAnswer answer }
     ensures { result ≡ pack_answer answer }
 {
     match answer {
-        Answer::Refused { number, place } => pack_number(number, place),
-        Answer::Done => 0,
+        Ok(()) => 0,
+        Err(refusal) => pack_refusal(refusal),
     }
 }
 
@@ -45,12 +39,13 @@ fn pack_verdict(verdict: Verdict) -> u64
     ensures { result ≡ pack_verdict verdict }
 {
     match verdict {
-        Verdict::Refused { number, place } => pack_number(number, place),
-        Verdict::Accepted { n, m } => pack_number(0, n + 65536 * m),
+        Ok(Size { n, m }) => (256 * (n + 65536 * m)) as u64,
+        Err(refusal) => pack_refusal(refusal),
     }
 }
 
 // Judges any bytes.
+#[tactic(auto, using(crate::proofs::Small::judged_small, crate::proofs::Small::small_fits))]
 pub fn qm_judge(file: &[u8]) -> u64
     ensures { Packed pack_verdict (Judged file.now) result }
 {
@@ -58,6 +53,7 @@ pub fn qm_judge(file: &[u8]) -> u64
 }
 
 // Fills 4n words of contents and n flip-flop bytes with the state at power-up.
+#[tactic(auto, using(crate::proofs::Small::called_small, crate::proofs::Small::power_most))]
 pub fn qm_power_up(file: &[u8], contents: &mut [u64], flops: &mut [u8]) -> u64
     ensures { Answered (PowersUp file contents flops) result }
 {
@@ -65,6 +61,7 @@ pub fn qm_power_up(file: &[u8], contents: &mut [u64], flops: &mut [u8]) -> u64
 }
 
 // Fills 32n value bytes with the settled signals.
+#[tactic(auto, using(crate::proofs::Small::called_small, crate::proofs::Small::settle_most))]
 pub fn qm_settle(
     file: &[u8],
     contents: &[u64],
@@ -78,6 +75,7 @@ pub fn qm_settle(
 }
 
 // Fills 32n value bytes with the signals settled before the edge, and moves the contents and the flip-flops.
+#[tactic(auto, using(crate::proofs::Small::called_small, crate::proofs::Small::settle_most))]
 pub fn qm_clock(
     file: &[u8],
     contents: &mut [u64],
@@ -90,22 +88,8 @@ pub fn qm_clock(
     pack_answer(simulator::clock(file, contents, flops, inputs, values))
 }
 
-// Makes the edits of a list in words.
-fn edit_listed(
-    file: &[u8],
-    contents: &mut [u64],
-    flops: &[u8],
-    inputs: &mut [u8],
-    values: &mut [u8],
-    words: [u64; LIST_WORDS],
-    count: usize,
-) -> u64
-    ensures { Answered (Edits file contents flops inputs values (edits_in words count)) result }
-{
-    pack_answer(edits::edit(file, contents, flops, inputs, values, words, count))
-}
-
 // Makes the edits of a list one after another, and recomputes the signals that depend on any of their changes.
+#[tactic(auto, using(crate::proofs::Small::called_small, crate::proofs::Small::edit_most))]
 pub fn qm_edit(
     file: &[u8],
     contents: &mut [u64],
@@ -116,43 +100,47 @@ pub fn qm_edit(
 ) -> u64
     ensures { Answered (Edits file contents flops inputs values edits.now) result }
 {
-    let words = editlist::list_edits(edits);
-    edit_listed(file, contents, flops, inputs, values, words, edits.len())
+    pack_answer(edits::edit(file, contents, flops, inputs, values, edits))
 }
 
-// Reads a record, and fills a body with its fields.
-fn read_body(bytes: &[u8], n: usize, m: usize, body: &mut [u8]) -> Answer
-    requires { length body.old ≡ body_length slice_tag }
+// Reads a record into a body.
+#[tactic(auto, using(recordcalls::proofs::RoundTrip::read_whole, recordcalls::proofs::Answers::read_given), unfolding(crate::specs::Bodies::read_body_refusal, crate::specs::Bodies::body_read, recordcalls::specs::Calls::read_record))]
+fn read_body(bytes: &[u8], n: usize, m: usize, body: &mut [u8]) -> Result<(), Refusal>
     ensures { ReadInto bytes.now n m body.old body.new result }
 {
-    let reading = recordcalls::read_record(bytes, n, m);
-    let answer = reading.answer;
-    let Answer::Done = answer else {
-        return answer;
-    };
-    slicerecord::put_bytes(body, 0, &bytes[HEAD..SLICE_RECORD]);
-    Answer::Done
+    if body.len() != SLICE_BODY {
+        return Err(Reason::WrongBuffer.at(0));
+    }
+    recordcalls::read_record(bytes, n, m)?;
+    body.copy_from_slice(&bytes[HEAD..SLICE_RECORD]);
+    Ok(())
 }
 
 // Reads one slice record, of 127 bytes, of a file of n slices and m outside inputs, into a body of 124 bytes.
+#[tactic(auto, using(crate::proofs::Small::answer_small, crate::proofs::Small::read_body_most))]
 pub fn qm_read_record(bytes: &[u8], n: usize, m: usize, body: &mut [u8]) -> u64
     ensures { RecordRead bytes.now n m body.old body.new result }
 {
-    if body.len() != SLICE_BODY {
-        return 10;
-    }
     pack_answer(read_body(bytes, n, m, body))
 }
 
+// Writes the record with a body.
+#[tactic(auto, unfolding(crate::specs::Bodies::write_body_refusal, crate::specs::Bodies::body_written))]
+fn write_body(body: &[u8], n: usize, m: usize, part: &mut [u8]) -> Result<(), Refusal>
+    ensures { WrittenFrom body.now n m part.old part.new result }
+{
+    if body.len() != SLICE_BODY {
+        return Err(Reason::WrongBuffer.at(0));
+    }
+    recordcalls::write_record(slicerecord::decode(body), n, m, part)
+}
+
 // Writes the record with a body of 124 bytes into the first 127 bytes of a part of a file of n slices and m outside inputs.
+#[tactic(auto, using(crate::proofs::Small::answer_small, crate::proofs::Small::write_body_most))]
 pub fn qm_write_record(body: &[u8], n: usize, m: usize, part: &mut [u8]) -> u64
     ensures { RecordWritten body.now n m part.old part.new result }
 {
-    if body.len() != SLICE_BODY {
-        return 10;
-    }
-    let slice = slicerecord::decode(body);
-    pack_answer(recordcalls::write_record(slice, n, m, part))
+    pack_answer(write_body(body, n, m, part))
 }
 
 // The verdict that a number was packed from.
@@ -160,72 +148,65 @@ fn unpack_verdict(number: u64) -> Verdict
     ensures { result ≡ unpack_verdict number }
 {
     if number % 256 == 0 {
-        return Verdict::Accepted {
+        return Ok(Size {
             n: (number / 256 % 65536) as usize,
             m: (number / 16777216) as usize,
-        };
+        });
     }
-    Verdict::Refused {
-        number: (number % 256) as usize,
-        place: (number / 256) as usize,
-    }
+    let reason = Reason::from((number % 256) as usize);
+    Err(reason.at((number / 256) as usize))
 }
 
 // A reader's reply: 0 is "more".
-fn pack_reply(reply: Reply) -> u64
+fn pack_reply(reply: Option<Verdict>) -> u64
     requires { FitsReply reply }
     ensures { result ≡ pack_reply reply }
 {
-    match reply {
-        Reply::More => 0,
-        Reply::Given(verdict) => pack_verdict(verdict),
-    }
+    reply.map_or(0, pack_verdict)
 }
 
 // The reply that a number was packed from.
-fn unpack_reply(number: u64) -> Reply
+fn unpack_reply(number: u64) -> Option<Verdict>
     ensures { result ≡ unpack_reply number }
 {
-    if number == 0 {
-        return Reply::More;
-    }
-    Reply::Given(unpack_verdict(number))
+    (number != 0).then(|| unpack_verdict(number))
 }
 
-// The reader of a state.
-fn load_reader(state: &[u64]) -> Reader
-    requires { length state.now ≡ state_length }
-    ensures { result ≡ reader_of state.now }
+// The reader of a state, if that has three words.
+fn load_reader(state: &[u64]) -> Option<Reader>
+    ensures { result ≡ loaded state.now }
 {
-    Reader {
-        len: state[0] as usize,
-        passed: state[1] as usize,
-        said: unpack_reply(state[2]),
-    }
+    let &[len, passed, said] = state else {
+        return None;
+    };
+    Some(Reader {
+        len: len as usize,
+        passed: passed as usize,
+        said: unpack_reply(said),
+    })
 }
 
-// Stores a reader in a state.
-fn store_reader(state: &mut [u64], reader: Reader)
-    requires { (length state.old ≡ state_length) × FitsReply reader.said }
-    ensures { state.new ≡ words_of reader }
+// The state of a reader.
+fn state_of(reader: Reader) -> [u64; 3]
+    requires { FitsReply reader.said }
+    ensures { result ≡ words_of reader }
 {
-    let said = reader.said;
-    state[0] = reader.len as u64;
-    state[1] = reader.passed as u64;
-    state[2] = pack_reply(said);
+    [
+        reader.len as u64,
+        reader.passed as u64,
+        pack_reply(reader.said),
+    ]
 }
 
 // Gives a reader the next run of a file's bytes, and whether no more will come: 0 is "more", else its verdict.
+#[tactic(auto, using(crate::proofs::Words::reply_packs, crate::proofs::Words::said_packs))]
 pub fn qm_feed(state: &mut [u64], store: &mut [u8], run: &[u8], last: u8) -> u64
     ensures { FeedsWords state.old store.old run.now last result state.new store.new }
 {
-    if state.len() != STATE {
-        return 10;
-    }
-    let reader = load_reader(state);
-    let fed = stream::feed(reader, store, run, last != 0);
-    let next = fed.reader;
-    let reply = fed.reply;
-    store_reader(state, next);
+    let Some(reader) = load_reader(state) else {
+        return pack_refusal(Reason::WrongBuffer.at(0));
+    };
+    let Fed { reply, reader } = stream::feed(reader, store, run, last != 0);
+    state.copy_from_slice(&state_of(reader));
     pack_reply(reply)
 }

@@ -1,15 +1,17 @@
 -- A file rewritten so far: the buffer has the file's first bytes, and each record put behind them is the file's own. Assumes nothing.
 use mathlib.Core.Path.{◌≡◌, ◌∙◌, refl, sym, ap}
 use mathlib.Core.Bool.{false, not}
-use mathlib.Core.List.{List, [], ◌∷◌, ◌++◌, append_assoc}
-use Prim.Native.Nat.{ℕ, ◌+◌, ◌-◌, ◌%◌, ◌≤◌, ◌<◌}
+use Rattle.std.specs.Prelude.{Ok}
+use mathlib.Core.List.{List, [], ◌∷◌, ◌++◌, append_assoc, append-nil}
+use Prim.Native.Nat.{ℕ, ◌+◌, ◌-◌, ◌*◌, ◌%◌, ◌≤◌, ◌<◌}
 use native.Mathlib.Nat.{add-sub_cancel_left}
 use native.Mathlib.Omega.{arith}
 use borrow.Author.Tests.{eqb-true, not-false, lt-ltb}
 use lib.Dec.{eqb}
-use lib.ListN.{length, take, drop, length-drop, take-append-drop}
-use lib.Seq.{sets, length-sets, sets-eq, take_all, take-add, take_at, take-append-add, length-take-le}
-use Rattle.slicefile.specs.Format.{size_tag, slice_tag, end_tag, record_length, end_record, byte_at, body_of, slice_count, input_count, number_byte}
+use lib.ListN.{length, take, drop, length-drop, take-append-drop, drop_of_length-le}
+use lib.Seq.{take_all, take-add, take_at, take-append-add, length-take-le}
+use Rattle.slicefile.specs.Format.{slice_limit, input_limit, size_tag, slice_tag, end_tag, record_length, end_record, byte_at, body_of, slice_count, input_count, number_byte}
+use Rattle.slicefile.specs.declared.Reason.TheVariants.{NotDue, OutsideList}
 use Rattle.rules.specs.Rules.{given, body_refusal}
 use Rattle.framing.specs.Framing.{header_refusal, bad_size, slice_refusal, size_refusal}
 use Rattle.rules.proofs.Refusals.{or_else_left, or_else_right, given_none}
@@ -20,7 +22,9 @@ use Rattle.slicerecord.specs.Record.{Below}
 use Rattle.slicerecord.proofs.Pieces.{piece, join, piece_byte}
 use Rattle.recordcalls.specs.Calls.{record_refusal, read_refusal}
 use Rattle.column.specs.File.{record_start}
-use Rattle.column.proofs.SoundLaws.{SoundFile, record_inside}
+use Rattle.column.specs.Check.{IsSound}
+use Rattle.column.proofs.Places.{start_at}
+use Rattle.column.proofs.SoundLaws.{SoundFile, sound_file, record_inside}
 
 -- a piece of the file, put behind its first bytes
 pub copied_next :
@@ -33,10 +37,10 @@ copied_next file out piece rest at k fits size same e =
     rw long at add ∙ rw (take_at piece rest k short, same, e, take-add)
 
 -- the number byte of a good slice
-number_byte_lem : (n m s : ℕ) (body : List ℕ) → s < 256 → body_refusal n m s body ≡ 0 → number_byte body ≡ s
+number_byte_lem : (n m s : ℕ) (body : List ℕ) → s < 256 → body_refusal n m s body ≡ Ok tt → number_byte body ≡ s
 unfolding body_refusal
 number_byte_lem n m s body l e =
-    omega (arith, eqb-true (number_byte body) (s % 256) (not-false _ (given_none 3 _ (or_else_left (given 4 (not (eqb (number_byte body) (s % 256)))) _ e))))
+    omega (arith, eqb-true (number_byte body) (s % 256) (not-false _ (given_none NotDue _ (or_else_left (given NotDue (not (eqb (number_byte body) (s % 256)))) _ e))))
 
 module _ (file : List ℕ) {n m : ℕ} (f : SoundFile file n m) where
   whole : record_length size_tag ≤ length file
@@ -64,7 +68,7 @@ module _ (file : List ℕ) {n m : ℕ} (f : SoundFile file n m) where
   pub record_size : (s : ℕ) → s < n → length (slice_record s) ≡ record_length slice_tag
   record_size s l = length-take-le (record_length slice_tag) (drop (record_start file s) file) (rw length-drop (omega (arith, record_inside file f s l)))
 
-  record_good : (s : ℕ) → s < n → slice_refusal n m s (slice_record s) ≡ 0
+  record_good : (s : ℕ) → s < n → slice_refusal n m s (slice_record s) ≡ Ok tt
   record_good s l =
       let stays = slice_stays n m s (slice_record s) (drop (record_length slice_tag) (drop (record_start file s) file)) (λ z. omega (arith, slice_cut n m s (slice_record s) z, record_size s l)) in
       sym (rw take-append-drop at stays) ∙ f.each s l
@@ -72,10 +76,10 @@ module _ (file : List ℕ) {n m : ℕ} (f : SoundFile file n m) where
   size_good : bad_size n m ≡ false
   unfolding size_refusal
   size_good =
-      rw (f.count, f.inputs) at (given_none 4 (bad_size (slice_count file) (input_count file)) (or_else_right (header_refusal size_tag file) (given 5 (bad_size (slice_count file) (input_count file))) f.begins))
+      rw (f.count, f.inputs) at (given_none OutsideList (bad_size (slice_count file) (input_count file)) (or_else_right (header_refusal size_tag file) (given OutsideList (bad_size (slice_count file) (input_count file))) f.begins))
 
   -- the reader takes it: its number is below n
-  pub record_read : (s : ℕ) → s < n → read_refusal (slice_record s) n m ≡ 0
+  pub record_read : (s : ℕ) → s < n → read_refusal (slice_record s) n m ≡ Ok tt
   unfolding read_refusal record_refusal slice_refusal
   record_read s l =
       let body = body_of slice_tag (slice_record s) in
@@ -86,24 +90,36 @@ module _ (file : List ℕ) {n m : ℕ} (f : SoundFile file n m) where
       simp (record_size s l, size_good, head, number, lt-ltb s n l, rest)
 
   -- a slice's record, read from its place and put there, with what stood behind it
-  pub slice_next : (out tail more : List ℕ) (s at : ℕ) → s < n → at ≡ record_start file s → length out ≡ length file → take at out ≡ take at file
-      → take (at + record_length slice_tag) (take at out ++ ((take (at + record_length slice_tag - at) (drop at file) ++ tail) ++ more)) ≡ take (at + record_length slice_tag) file
-  slice_next out tail more s at l here size same =
-      rw (append_assoc, add-sub_cancel_left)
+  pub slice_next : (out tail more : List ℕ) (s at next : ℕ) → s < n → at ≡ record_start file s → next ≡ at + record_length slice_tag → length out ≡ length file
+      → take at out ≡ take at file → take next (take at out ++ ((take (at + record_length slice_tag - at) (drop at file) ++ tail) ++ more)) ≡ take next file
+  slice_next out tail more s at next l here e size same =
+      rw (e, append_assoc, add-sub_cancel_left)
       (copied_next file out (take (record_length slice_tag) (drop at file)) (tail ++ more) at (record_length slice_tag) (omega (arith, record_inside file f s l)) size same refl)
 
-  -- the size record, put into any buffer of the file's length
-  pub size_next : Below 256 file → (out : List ℕ) → length out ≡ length file
-      → take (record_length size_tag) (sets out 0 (1 ∷ 2 ∷ 0 ∷ n ∷ m ∷ [])) ≡ take (record_length size_tag) file
-  size_next b out size =
-      rw (sets-eq (1 ∷ 2 ∷ 0 ∷ n ∷ m ∷ []) out 0 (omega (arith, whole)))
-      (copied_next file out (1 ∷ 2 ∷ 0 ∷ n ∷ m ∷ []) (drop (record_length size_tag) out) 0 (record_length size_tag) whole size refl (size_bytes b))
+  -- the size record, put at the front of any buffer of the file's length
+  pub size_next : Below 256 file → (out front : List ℕ) → front ≡ 1 ∷ 2 ∷ 0 ∷ n ∷ m ∷ [] → length out ≡ length file
+      → (length (front ++ drop (record_length size_tag) out) ≡ length file)
+      × (take (record_length size_tag) (front ++ drop (record_length size_tag) out) ≡ take (record_length size_tag) file)
+  size_next b out front e size = (
+    rw (e, length-drop) (omega (arith, size, whole)),
+    copied_next file out front (drop (record_length size_tag) out) 0 (record_length size_tag) whole size refl (e ∙ size_bytes b),
+  )
 
   -- the end record, put last, makes it the file
-  pub end_next : (out : List ℕ) (at : ℕ) → at ≡ record_start file n → length out ≡ length file → take at out ≡ take at file → sets out at end_record ≡ file
-  end_next out at here size same =
-      let e : end_record ≡ take (record_length end_tag) (drop at file) = rw here (sym (end_bytes (drop (record_start file n) file) f.ends)) in
-      let all = at + record_length end_tag in
-      let fits : at + record_length end_tag ≡ length file = omega (arith, f.size) in
-      let put : take all (sets out at end_record) ≡ take all file = rw (sets-eq end_record out at (omega arith), append_assoc) (copied_next file out end_record (drop all out) at (record_length end_tag) (omega arith) size same e) in
-      sym (take_all all (sets out at end_record) (rw length-sets (omega arith))) ∙ put ∙ take_all all file (omega arith)
+  pub end_next : (out last : List ℕ) (at : ℕ) → at ≡ record_start file n → length out ≡ length file → take at out ≡ take at file → last ≡ end_record
+      → take at out ++ (last ++ drop (length out - at) (drop at out)) ≡ file
+  end_next out last at here size same e =
+      let whole : drop at file ≡ take (record_length end_tag) (drop at file) = sym (take_all (record_length end_tag) (drop at file) (rw length-drop (omega (arith, f.size)))) in
+      let rest : drop at file ≡ last = whole ∙ rw here (end_bytes (drop (record_start file n) file) f.ends) ∙ sym e in
+      rw (same, drop_of_length-le (drop at out) {i = length out - at} (rw length-drop (omega arith)), append-nil, ← rest) (take-append-drop at file)
+
+module _ (file : List ℕ) {n m : ℕ} (e : IsSound file n m) where
+  -- a sound file in numbers
+  pub sound_length : length file ≡ record_length size_tag + record_length slice_tag * n + record_length end_tag
+  sound_length = omega (arith, (sound_file file e).size, start_at file n)
+
+  pub sound_slices : n ≤ slice_limit
+  sound_slices = (sound_file file e).slices_fit
+
+  pub sound_inputs : m ≤ input_limit
+  sound_inputs = (sound_file file e).inputs_fit

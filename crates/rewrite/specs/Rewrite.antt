@@ -1,21 +1,19 @@
 -- A sound file read and written again, record by record.
-use Rattle.std.specs.Prelude.{ℕ, Bool, true, false, List, eqb, length}
+use Rattle.std.specs.Prelude.{ℕ, Ok, Err, Bool, true, false, List, eqb, length}
 use Rattle.column.specs.Check.{check_file}
-use Rattle.column.specs.declared.Checked.{Checked}
-use Rattle.column.specs.declared.Checked.TheVariants.{Bad, Sound}
-use Rattle.slicefile.specs.declared.Answer.{Answer}
-use Rattle.slicefile.specs.declared.Answer.TheVariants.{Refused, Done}
+use Rattle.slicefile.specs.Refusals.{refused, Answer, Verdict}
+use Rattle.slicefile.specs.declared.Reason.TheVariants.{WrongBuffer}
 
 -- a bad file's number and place; a buffer of another length than the file's, 10; else done
-abbrev pub rewrite_answer : Checked → Bool → Answer
-rewrite_answer (Bad k p) fits = Refused k p
-rewrite_answer (Sound n m) true = Done
-rewrite_answer (Sound n m) false = Refused 10 0
+abbrev pub rewrite_answer : Verdict → Bool → Answer
+rewrite_answer (Err r) fits = Err r
+rewrite_answer (Ok size) true = Ok tt
+rewrite_answer (Ok size) false = Err (refused WrongBuffer 0)
 
 -- the buffer after an answer: the file where it was done, else as it was
 abbrev pub left_by : Answer → List ℕ → List ℕ → List ℕ
-left_by Done file out = file
-left_by (Refused k p) file out = out
+left_by (Ok u) file out = file
+left_by (Err r) file out = out
 
 -- what rewriting a file into a buffer answers
 unfoldable pub rewritten : List ℕ → List ℕ → Answer

@@ -4,6 +4,8 @@ use mathlib.Core.Bool.{false, not, ◌&&◌, ◌||◌}
 use mathlib.Core.List.{List}
 use Prim.Native.Nat.{ℕ, ◌+◌, ◌%◌, ◌^◌, ◌≤◌, ◌<◌}
 use borrow.Author.Tests.{eq-eqb, eqb-true, not-false, ltb-false}
+use Rattle.std.specs.Prelude.{Ok}
+use Rattle.slicefile.specs.declared.Reason.TheVariants.{NotDue, OutsideList, Combination}
 use lib.Dec.{leb, ltb, eqb}
 use Rattle.slicefile.specs.Lists.{any_below}
 use Rattle.slicefile.specs.Format.{number_byte, kind, mode, shift_data, contents_word, carry_data, carry_start, mux_choice, main_input, second_input, set_reset_used}
@@ -11,13 +13,13 @@ use Rattle.slicefile.proofs.Tests.{or_left, or_right, none_below}
 use Rattle.rules.specs.Rules.{given, mode_is, letter_choice, bad_choice, letter_combination, bad_combination, body_refusal}
 use Rattle.rules.proofs.Refusals.{or_else_left, or_else_right, given_none}
 
-module _ (n m s : ℕ) (body : List ℕ) (ok : body_refusal n m s body ≡ 0) where
+module _ (n m s : ℕ) (body : List ℕ) (ok : body_refusal n m s body ≡ Ok tt) where
   letter_good : (l : ℕ) → l < 4 → letter_combination body l ≡ false
   unfolding body_refusal bad_combination
   letter_good l h =
-      let e₁ = or_else_right (given 4 (not (eqb (number_byte body) (s % 256)))) _ ok in
-      let e₂ = or_else_right (given 5 (bad_choice body)) _ e₁ in
-      let combination = given_none 5 (bad_combination s body) (or_else_left (given 6 (bad_combination s body)) _ e₂) in
+      let e₁ = or_else_right (given NotDue (not (eqb (number_byte body) (s % 256)))) _ ok in
+      let e₂ = or_else_right (given OutsideList (bad_choice body)) _ e₁ in
+      let combination = given_none Combination (bad_combination s body) (or_else_left (given Combination (bad_combination s body)) _ e₂) in
       let some = any_below 4 (letter_combination body) in
       let both = any_below 4 (mode_is body 1) && any_below 4 (mode_is body 2) in
       let start = eqb s 0 && eqb (carry_start body) 3 in
@@ -46,8 +48,8 @@ module _ (n m s : ℕ) (body : List ℕ) (ok : body_refusal n m s body ≡ 0) wh
   pub mode_listed : (l : ℕ) → l < 4 → mode body l ≤ 2
   unfolding body_refusal bad_choice letter_choice
   mode_listed l h =
-      let e = or_else_right (given 4 (not (eqb (number_byte body) (s % 256)))) _ ok in
-      let choice = given_none 4 (bad_choice body) (or_else_left (given 5 (bad_choice body)) _ e) in
+      let e = or_else_right (given NotDue (not (eqb (number_byte body) (s % 256)))) _ ok in
+      let choice = given_none OutsideList (bad_choice body) (or_else_left (given OutsideList (bad_choice body)) _ e) in
       let letters = or_right (ltb 1 (kind body) || ltb 3 (carry_start body) || ltb 1 (set_reset_used body)) (any_below 4 (letter_choice body)) choice in
       let a = ltb 2 (mode body l) in
       let b = ltb 1 (shift_data body l) in

@@ -1,21 +1,22 @@
 -- Rules 4 to 7: what is wrong with a slice's body, in the paper's order.
-use Rattle.std.specs.Prelude.{ℕ, zero, suc, ◌+◌, ◌%◌, ◌^◌, Bool, true, false, not, ◌&&◌, ◌||◌, List, leb, ltb, eqb}
+use Rattle.std.specs.Prelude.{ℕ, Ok, Err, is_none, ◌+◌, ◌%◌, ◌^◌, Bool, true, false, not, ◌&&◌, ◌||◌, List, leb, ltb, eqb}
 use Rattle.slicefile.specs.Lists.{any_below}
 use Rattle.slicefile.specs.Format.{number_byte, kind, mode, shift_data, contents_word, carry_data, carry_start, mux_choice, main_input, second_input, set_reset_used, pin_count, pin_code}
 use Rattle.slicefile.specs.Driver.{driver_of}
-use Rattle.slicefile.specs.declared.Decoded.{Decoded}
-use Rattle.slicefile.specs.declared.Decoded.TheVariants.{Driven, Missing}
+use Rattle.slicefile.specs.declared.Reason.{Reason}
+use Rattle.slicefile.specs.declared.Reason.TheVariants.{NotDue, OutsideList, Combination, NoDriver}
+use Rattle.slicefile.specs.Refusals.{Tested}
 
--- a refusal's number where the test says so, else 0
-abbrev pub given : ℕ → Bool → ℕ
-given k true = k
-given k false = 0
+-- a reason where the test says so
+abbrev pub given : Reason → Bool → Tested
+given r true = Err r
+given r false = Ok tt
 
--- the first refusal that is not 0
+-- the first reason that is given
 infixr 20 ◌or_else◌
-abbrev pub ◌or_else◌ : ℕ → ℕ → ℕ
-zero or_else b = b
-(suc a) or_else b = suc a
+abbrev pub ◌or_else◌ : Tested → Tested → Tested
+(Ok u) or_else b = b
+(Err r) or_else b = Err r
 
 -- rule 5 for a letter, and for a slice: "a choice outside its list"
 unfoldable pub letter_choice : List ℕ → ℕ → Bool
@@ -49,18 +50,14 @@ bad_combination number body =
     || (any_below 4 (mode_is body 1) && any_below 4 (mode_is body 2))
     || (eqb number 0 && eqb (carry_start body) 3)
 
-abbrev pub missing : Decoded → Bool
-missing (Driven d) = false
-missing Missing = true
-
 -- rule 7: "a driver that doesn't exist"
 unfoldable pub bad_driver : ℕ → ℕ → List ℕ → Bool
-bad_driver n m body = any_below pin_count (λ p. missing (driver_of (pin_code body p) n m))
+bad_driver n m body = any_below pin_count (λ p. is_none (driver_of (pin_code body p) n m))
 
 -- the body of the slice of a number, of n slices and m outside inputs: "then 4, 5, 6, 7". The number byte holds the number modulo 256
-unfoldable pub body_refusal : ℕ → ℕ → ℕ → List ℕ → ℕ
+unfoldable pub body_refusal : ℕ → ℕ → ℕ → List ℕ → Tested
 body_refusal n m number body =
-    given 4 (not (eqb (number_byte body) (number % 256)))
-    or_else given 5 (bad_choice body)
-    or_else given 6 (bad_combination number body)
-    or_else given 7 (bad_driver n m body)
+    given NotDue (not (eqb (number_byte body) (number % 256)))
+    or_else given OutsideList (bad_choice body)
+    or_else given Combination (bad_combination number body)
+    or_else given NoDriver (bad_driver n m body)

@@ -3,10 +3,10 @@
 
 ghost use Rattle.std.specs.Prelude.{◌≡◌, ◌<◌};
 ghost use Rattle.slicefile.specs.Format.{HoldsSlice};
-ghost use Rattle.rules.specs.Rules.{letter_choice, bad_choice, letter_combination, bad_combination, missing, bad_driver, body_refusal};
+ghost use Rattle.rules.specs.Rules.{letter_choice, bad_choice, letter_combination, bad_combination, bad_driver, body_refusal};
 
 use slicefile::{
-    CARRY_DATA, CARRY_START, Decoded, KIND, MAIN, MODE, MODE_D, MUX, NUMBER, PIN_COUNT, SECOND,
+    CARRY_DATA, CARRY_START, KIND, MAIN, MODE, MODE_D, MUX, NUMBER, PIN_COUNT, Reason, SECOND,
     SET_RESET_USED, SHIFT_DATA,
 };
 
@@ -24,15 +24,14 @@ fn letter_choice(body: &[u8], l: usize) -> bool
 }
 
 // Rule 5 on a slice's body.
+#[tactic(auto, using(slicefile::proofs::Tests::any_next), unfolding(slicefile::specs::Lists::any_below, crate::specs::Rules::bad_choice))]
 fn bad_choice(body: &[u8]) -> bool
     requires { HoldsSlice body.now }
     ensures { result ≡ bad_choice body.now }
 {
     let mut letters = false;
-    let mut l = 0;
-    while l < 4 {
+    for l in 0..4 {
         letters = letter_choice(body, l) | letters;
-        l += 1;
     }
     (1 < body[KIND]) | (3 < body[CARRY_START]) | (1 < body[SET_RESET_USED]) | letters
 }
@@ -52,6 +51,7 @@ fn letter_combination(body: &[u8], l: usize) -> bool
 }
 
 // Rule 6 on the body of the slice of a number.
+#[tactic(auto, using(slicefile::proofs::Tests::any_next), unfolding(slicefile::specs::Lists::any_below))]
 fn bad_combination(number: usize, body: &[u8]) -> bool
     requires { HoldsSlice body.now }
     ensures { result ≡ bad_combination number body.now }
@@ -59,57 +59,46 @@ fn bad_combination(number: usize, body: &[u8]) -> bool
     let mut letters = false;
     let mut memory = false;
     let mut shift = false;
-    let mut l = 0;
-    while l < 4 {
+    for l in 0..4 {
         letters = letter_combination(body, l) | letters;
         memory = (body[MODE + l] == 1) | memory;
         shift = (body[MODE + l] == 2) | shift;
-        l += 1;
     }
     letters | (memory & shift) | ((number == 0) & (body[CARRY_START] == 3))
 }
 
-fn is_missing(d: Decoded) -> bool
-    ensures { result ≡ missing d }
-{
-    match d {
-        Decoded::Driven(_) => false,
-        Decoded::Missing => true,
-    }
-}
-
 // Rule 7 on a slice's body.
+#[tactic(auto, using(slicefile::proofs::Tests::any_next), unfolding(slicefile::specs::Lists::any_below))]
 fn bad_driver(n: usize, m: usize, body: &[u8]) -> bool
     requires { HoldsSlice body.now }
     ensures { result ≡ bad_driver n m body.now }
 {
     let mut found = false;
-    let mut p = 0;
-    while p < PIN_COUNT {
+    for p in 0..PIN_COUNT {
         let code = slicefile::pin_code(body, p);
-        found = is_missing(slicefile::decode_driver(code, n, m)) | found;
-        p += 1;
+        found = slicefile::decode_driver(code, n, m).is_none() | found;
     }
     found
 }
 
-// Rules 4 to 7 on the body of the slice of a number; 0 where none is broken.
-pub fn body_refusal(n: usize, m: usize, number: usize, body: &[u8]) -> usize
+// Rules 4 to 7 on the body of the slice of a number.
+#[tactic(auto, unfolding(crate::specs::Rules::body_refusal))]
+pub fn body_refusal(n: usize, m: usize, number: usize, body: &[u8]) -> Result<(), Reason>
     requires { HoldsSlice body.now }
     ensures { result ≡ body_refusal n m number body.now }
 {
-    let told = body[NUMBER] as usize;
+    let told = usize::from(body[NUMBER]);
     if told != number % 256 {
-        return 4;
+        return Err(Reason::NotDue);
     }
     if bad_choice(body) {
-        return 5;
+        return Err(Reason::OutsideList);
     }
     if bad_combination(number, body) {
-        return 6;
+        return Err(Reason::Combination);
     }
     if bad_driver(n, m, body) {
-        return 7;
+        return Err(Reason::NoDriver);
     }
-    0
+    Ok(())
 }

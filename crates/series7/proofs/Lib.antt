@@ -1,3 +1,4 @@
 pub mod GateLaws
 pub mod Numbers
 pub mod CarryLaws
+pub mod TablePins

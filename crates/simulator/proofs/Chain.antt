@@ -2,6 +2,7 @@
 -- lengths and inputs 0 and 1, are all done, and are the run. Assumes nothing.
 use mathlib.Core.Path.{◌≡◌, ◌∙◌, refl, ap, subst, subst⁻¹}
 use mathlib.Core.Bool.{Bool, true, false, cond, ◌&&◌}
+use Rattle.std.specs.Prelude.{Ok}
 use mathlib.Core.List.{List}
 use Prim.Native.Nat.{ℕ, zero, suc, ◌+◌, ◌*◌, ◌/◌, ◌%◌, ◌^◌, ◌≤◌, ◌<◌}
 use native.Mathlib.Omega.{arith}
@@ -12,9 +13,10 @@ use Rattle.netlist.specs.Rule.{bit_at, value_of}
 use Rattle.netlist.specs.declared.Source.{Source}
 use Rattle.netlist.specs.Table.{signal_count}
 use Rattle.slicefile.specs.Format.{slice_count, input_count, mode, shift_data, bypass_pin, write_enable_pin}
-use Rattle.slicefile.specs.declared.Answer.{Answer}
+use Rattle.slicefile.specs.declared.Reason.TheVariants.{WrongBuffer}
+use Rattle.slicefile.specs.declared.Size.{Size}
+use Rattle.slicefile.specs.Refusals.{Answer}
 use Rattle.slicefile.proofs.Tabulate.{tabulate_length, tabulate_at}
-use Rattle.slicefile.specs.declared.Answer.TheVariants.{Done}
 use Rattle.rules.specs.Rules.{given}
 use Rattle.series7.specs.Edge.{write_address, written, next_word}
 use Rattle.sources.specs.Sources.{pin_source}
@@ -22,7 +24,6 @@ use Rattle.series7.proofs.GateLaws.{either}
 use Rattle.column.specs.Clock.{State, power_up, clocked, Run}
 use Rattle.column.specs.File.{slice_body}
 use Rattle.column.specs.Judge.{Judged}
-use Rattle.column.specs.declared.Verdict.TheVariants.{Accepted}
 use Rattle.column.proofs.Tables.{records_sound}
 use Rattle.buffers.specs.Buffers.{bad_state, bad_word, settle_refusal, GoodState, GoodInputs, GoodValues}
 use Rattle.buffers.proofs.Good.{state_good, words_good, good_words, settle_good, settle_tells, settled_good}
@@ -54,7 +55,13 @@ next_allowed v n m body l old next h =
     either (Allowed (mode body l)) (eqb (v (pin_source n m body write_enable_pin)) 1) {a = written (mode body l) old address bypass d} {b = old}
     (written_allowed (mode body l) old address bypass d h) h
 
-module _ (file : List ℕ) {n m : ℕ} (j : Judged file (Accepted n m)) where
+module _ (file : List ℕ) {size : Size} (j : Judged file (Ok size)) where
+  abbrev n : ℕ
+  n = size.n
+
+  abbrev m : ℕ
+  m = size.m
+
   -- a good state moves to a good one
   clocked_good : (st : State) (inputs values : List ℕ) → GoodState file n st → GoodState file n (clocked file st inputs values)
   unfolding clocked bad_word
@@ -63,17 +70,17 @@ module _ (file : List ℕ) {n m : ℕ} (j : Judged file (Accepted n m)) where
       let long = (state_lengths n st good.0).0 in
       let next : ℕ → ℕ = λ t. next_word (value_of inputs values) (slice_count file) (input_count file) (slice_body file (t / 4)) (t % 4) (get_or st.contents t 0) (get_or st.contents (t + 1) 0) in
       let words = (clocked file st inputs values).contents in
-      let size : length words ≡ 4 * n = tabulate_length 0 _ _ ∙ ap (λ (k : ℕ). 4 * k) f.count in (
-        state_good n (clocked file st inputs values) size (tabulate_length 0 _ _ ∙ f.count),
+      let sized : length words ≡ 4 * n = tabulate_length 0 _ _ ∙ ap (λ (k : ℕ). 4 * k) f.count in (
+        state_good n (clocked file st inputs values) sized (tabulate_length 0 _ _ ∙ f.count),
         words_good file words
             (λ t h. rw (tabulate_at (4 * slice_count file) next t (omega (arith, f.count)))
             (next_allowed _ _ _ (slice_body file (t / 4)) (t % 4) _ _ (good_words file st.contents good.1 t (omega arith)))),
       )
 
-  pub settle_leaves : (st : State) (inputs old new : List ℕ) → SettleCalled file st inputs old new Done → GoodValues n new
+  pub settle_leaves : (st : State) (inputs old new : List ℕ) → SettleCalled file st inputs old new (Ok tt) → GoodValues n new
   settle_leaves st inputs old new (done _ _ s) = settled_good file j st inputs new s
 
-  pub clock_leaves : (st moved : State) (inputs old new : List ℕ) → ClockCalled file st moved inputs old new Done → GoodState file n moved × GoodValues n new
+  pub clock_leaves : (st moved : State) (inputs old new : List ℕ) → ClockCalled file st moved inputs old new (Ok tt) → GoodState file n moved × GoodValues n new
   clock_leaves st moved inputs old new c =
       let d = done_there file _ j c in
       let good = (settle_tells file st inputs old n m d.0).0 in
@@ -81,20 +88,20 @@ module _ (file : List ℕ) {n m : ℕ} (j : Judged file (Accepted n m)) where
 
   -- settle and clock take a good state and good inputs
   module _ (st : State) (inputs old : List ℕ) (good : GoodState file n st) (given : GoodInputs m inputs) (long : length old ≡ signal_count n) where
-    none_refused : settle_refusal file st inputs old n m ≡ 0
+    none_refused : settle_refusal file st inputs old n m ≡ Ok tt
     none_refused = settle_good file st inputs old n m good given long
 
-    pub settle_taken : (new : List ℕ) {r : Answer} → SettleCalled file st inputs old new r → r ≡ Done
+    pub settle_taken : (new : List ℕ) {r : Answer} → SettleCalled file st inputs old new r → r ≡ Ok tt
     settle_taken new c = not_refused file (settle_refusal file st inputs old) j none_refused c
 
-    pub clock_taken : (moved : State) (new : List ℕ) {r : Answer} → ClockCalled file st moved inputs old new r → r ≡ Done
+    pub clock_taken : (moved : State) (new : List ℕ) {r : Answer} → ClockCalled file st moved inputs old new r → r ≡ Ok tt
     clock_taken moved new c = not_refused file (settle_refusal file st inputs old) j none_refused c
 
   -- clocks, each from the state that the last one left, with good inputs and value buffers of their length
   module _ (states : ℕ → State) (inputs olds tables : ℕ → List ℕ) (answers : ℕ → Answer) (K : ℕ) (start : GoodState file n (states 0))
       (lent : (k : ℕ) → k < K → GoodInputs m (inputs k) × (length (olds k) ≡ signal_count n))
       (calls : (k : ℕ) → k < K → ClockCalled file (states k) (states (suc k)) (inputs k) (olds k) (tables k) (answers k)) where
-    done_at : (k : ℕ) → k < K → GoodState file n (states k) → answers k ≡ Done
+    done_at : (k : ℕ) → k < K → GoodState file n (states k) → answers k ≡ Ok tt
     done_at k l good = clock_taken (states k) (inputs k) (olds k) good (lent k l).0 (lent k l).1 (states (suc k)) (tables k) (calls k l)
 
     good_at : (k : ℕ) → k ≤ K → GoodState file n (states k)
@@ -105,7 +112,7 @@ module _ (file : List ℕ) {n m : ℕ} (j : Judged file (Accepted n m)) where
         (clock_leaves (states k) (states (suc k)) (inputs k) (olds k) (tables k) called).0
 
     -- are all done
-    pub clocks_done : (k : ℕ) → k < K → answers k ≡ Done
+    pub clocks_done : (k : ℕ) → k < K → answers k ≡ Ok tt
     clocks_done k l = done_at k l (good_at k (omega arith))
 
     -- and are the run
@@ -119,9 +126,9 @@ module _ (file : List ℕ) {n m : ℕ} (j : Judged file (Accepted n m)) where
       → bad_state n before ≡ false → PoweredUp file before (states 0) first
       → ((k : ℕ) → k < K → GoodInputs m (inputs k) × (length (olds k) ≡ signal_count n))
       → ((k : ℕ) → k < K → ClockCalled file (states k) (states (suc k)) (inputs k) (olds k) (tables k) (answers k))
-      → (first ≡ Done) × ((k : ℕ) → k < K → answers k ≡ Done) × (r : Run file (power_up file) inputs K) × (r.states ≡ states) × (r.tables ≡ tables)
+      → (first ≡ Ok tt) × ((k : ℕ) → k < K → answers k ≡ Ok tt) × (r : Run file (power_up file) inputs K) × (r.states ≡ states) × (r.tables ≡ tables)
   power_up_run before {first} states inputs olds tables answers K sized power lent calls =
-      let e : first ≡ Done = not_refused file (λ n m. given 10 (bad_state n before)) j (rw sized) power in
+      let e : first ≡ Ok tt = not_refused file (λ n m. given WrongBuffer (bad_state n before)) j (rw sized) power in
       let d = subst (PoweredUp file before (states 0)) e power in
       let start = power_up_leaves file before (states 0) j d in
       let r = clocks_are_run states inputs olds tables answers K start lent calls (called_done file _ d).4 in

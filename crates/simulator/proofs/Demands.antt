@@ -1,13 +1,13 @@
 -- What the promises of settle and clock come to: each settles its answer and every byte it leaves, and calls of clock make a run. Assumes nothing.
 use mathlib.Core.Path.{◌≡◌, ◌∙◌, refl, sym, ap, subst}
+use Rattle.std.specs.Prelude.{Ok}
 use mathlib.Core.List.{List}
 use Prim.Native.Nat.{ℕ, suc, ◌≤◌, ◌<◌}
 use native.Mathlib.Omega.{arith}
-use Rattle.slicefile.specs.declared.Answer.{Answer}
-use Rattle.slicefile.specs.declared.Answer.TheVariants.{Done}
+use Rattle.slicefile.specs.declared.Size.{Size}
+use Rattle.slicefile.specs.Refusals.{Answer}
 use Rattle.column.specs.Clock.{State, clocked, SettledFor, Run}
 use Rattle.column.specs.Judge.{Judged}
-use Rattle.column.specs.declared.Verdict.TheVariants.{Accepted}
 use Rattle.column.proofs.Runs.{run_unique}
 use Rattle.column.proofs.Tables.{settled_once}
 use Rattle.buffers.specs.Buffers.{settle_refusal}
@@ -29,7 +29,7 @@ clock_unique file st moved moved' inputs old new new' c c' =
 
 -- ---- demand 2: calls of clock, each from the state that the last one left, make a run, which is the only one
 pub clocks_run : (file : List ℕ) {start : State} (states : ℕ → State) (inputs olds tables : ℕ → List ℕ) (K : ℕ) → states 0 ≡ start
-    → ((k : ℕ) → k < K → ClockCalled file (states k) (states (suc k)) (inputs k) (olds k) (tables k) Done)
+    → ((k : ℕ) → k < K → ClockCalled file (states k) (states (suc k)) (inputs k) (olds k) (tables k) (Ok tt))
     → (r : Run file start inputs K) × (r.states ≡ states) × (r.tables ≡ tables)
 clocks_run file states inputs olds tables K from each = (
   record {
@@ -43,12 +43,12 @@ clocks_run file states inputs olds tables K from each = (
   refl,
 )
 
-pub run_determined : (file : List ℕ) {n m : ℕ} → Judged file (Accepted n m) → {start : State} {inputs : ℕ → List ℕ} {K : ℕ} (r r' : Run file start inputs K) (k : ℕ) → k ≤ K
+pub run_determined : (file : List ℕ) {size : Size} → Judged file (Ok size) → {start : State} {inputs : ℕ → List ℕ} {K : ℕ} (r r' : Run file start inputs K) (k : ℕ) → k ≤ K
     → r.states k ≡ r'.states k
 run_determined file j r r' k l = run_unique file (settled_once file j) r r' k l
 
 -- and so are its tables
-pub tables_determined : (file : List ℕ) {n m : ℕ} → Judged file (Accepted n m) → {start : State} {inputs : ℕ → List ℕ} {K : ℕ} (r r' : Run file start inputs K) (k : ℕ) → k < K
+pub tables_determined : (file : List ℕ) {size : Size} → Judged file (Ok size) → {start : State} {inputs : ℕ → List ℕ} {K : ℕ} (r r' : Run file start inputs K) (k : ℕ) → k < K
     → r.tables k ≡ r'.tables k
 tables_determined file j {inputs = inputs} r r' k l =
     let moved = subst (λ (q : State). SettledFor file q (inputs k) (r.tables k)) (run_determined file j r r' k (omega arith)) (r.settled k l) in

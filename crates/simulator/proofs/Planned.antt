@@ -4,23 +4,35 @@ use mathlib.Core.List.{List}
 use Prim.Native.Nat.{ℕ, ◌≤◌, ◌<◌}
 use native.Mathlib.Decide.{dec_lt}
 use native.Mathlib.Omega.{arith}
-use lib.ListN.{length, get_or, get_or-eq_default}
-use Rattle.netlist.specs.Table.{signal_count, net_of}
+use lib.ListN.{length, get_or, take, get_or-eq_default}
+use Rattle.netlist.specs.Table.{signal_count, wire_count, wire_limit, net_of}
 use Rattle.netlist.specs.Wires.{wires_of}
 use Rattle.netlist.proofs.Agree.{settled_agree}
 use Rattle.netlist.proofs.Bits.{settled_bits}
 use Rattle.netlist.proofs.Wires.{wires_of_lem, on_inputs, on_values}
-use Rattle.slicefile.specs.declared.Answer.{Answer}
+use Rattle.netlist.proofs.Zeros.{zeros, zeros_length, zeros_all}
+use Rattle.slicefile.specs.Refusals.{Answer}
 use Rattle.evaluation.specs.Numbers.{Bits}
 use Rattle.column.specs.Clock.{State, env_of, clocked, SettledFor}
 use Rattle.column.specs.File.{gate_at}
-use Rattle.plan.specs.Plan.{Ready, clocked_by}
-use Rattle.plan.proofs.Plans.{ready_sound, clocked_same}
+use Rattle.plan.specs.Plan.{Ready, Runnable, clocked_by}
+use Rattle.plan.proofs.Plans.{ready_sound, ready_runs, clocked_same}
 use Rattle.buffers.proofs.Modes.{settle_same}
 use Rattle.buffers.proofs.Passed.{settle_passed}
 use Rattle.calls.specs.Calls.{Planned, turned_down, carried_out}
 use Rattle.calls.proofs.Calls.{planned_called}
 use Rattle.simulator.specs.Running.{SettleCalled, ClockCalled, SettledPlan, SettlePlanned, ClockPlanned, plan_refusal}
+
+-- a file's wires are as many as there may be
+pub wires_fit : (file : List ℕ) {n m : ℕ} {plan : List ℕ} → Ready file n m plan → wire_count n m ≤ wire_limit
+wires_fit file ready = let r = ready_runs file ready in omega (arith, r.few, r.narrow)
+
+-- the wires lent to a call by a plan: the front of as many zeros as there are wires at most
+pub wires_lent :
+    {n m : ℕ} {plan : List ℕ} → Runnable n m plan
+    → (length (take (wire_count n m) (zeros wire_limit)) ≡ wire_count n m) × Bits (take (wire_count n m) (zeros wire_limit))
+wires_lent {n} {m} r =
+    (zeros_length wire_limit (wire_count n m) (omega (arith, r.few, r.narrow)), λ i. rw (zeros_all wire_limit (wire_count n m) i) (omega arith))
 
 module _ (file : List ℕ) {n m : ℕ} {plan : List ℕ} (r : Ready file n m plan) (st : State) (inputs : List ℕ) where
   pub settled_file : {values : List ℕ} → SettledPlan plan n st inputs values → SettledFor file st inputs values

@@ -1,7 +1,7 @@
 -- What settle and clock answer and leave.
 use Rattle.std.specs.Prelude.{ℕ, ◌≡◌, List}
 use Rattle.lent.specs.Lent.{Lent, Shown, was, left, shown}
-use Rattle.slicefile.specs.declared.Answer.{Answer}
+use Rattle.slicefile.specs.Refusals.{Tested, Answer}
 use Rattle.column.specs.Clock.{State, state_of, state_was, state_left, env_of, clocked, SettledFor}
 use Rattle.netlist.specs.Settle.{Settled}
 use Rattle.netlist.specs.Table.{signal_count, net_of}
@@ -22,7 +22,7 @@ ClockCalled file st moved inputs old new =
     (λ n m. (moved ≡ clocked file st inputs new) × SettledFor file st inputs new)
 
 -- the two over a plan of n slices and m outside inputs, whatever file it stands for
-abbrev pub plan_refusal : List ℕ → ℕ → ℕ → State → List ℕ → List ℕ → ℕ
+abbrev pub plan_refusal : List ℕ → ℕ → ℕ → State → List ℕ → List ℕ → Tested
 plan_refusal plan n m st inputs values = settle_refusal_by (bad_words_by (plan_edges plan n) st.contents) st inputs values n m
 
 abbrev pub SettledPlan : List ℕ → ℕ → State → List ℕ → List ℕ → Type 0

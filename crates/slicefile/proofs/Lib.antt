@@ -1,5 +1,5 @@
 pub mod Tests
-pub mod Words
 pub mod Tabulate
 pub mod DriverLaws
 pub mod Filling
+pub mod Reasons

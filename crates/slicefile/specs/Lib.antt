@@ -1,3 +1,4 @@
 pub mod Lists
 pub mod Format
 pub mod Driver
+pub mod Refusals

@@ -4,6 +4,7 @@
 ghost use Rattle.std.specs.Prelude.{◌≡◌, ◌+◌, ◌<◌, length};
 ghost use Rattle.slicefile.specs.Format.{pair_at, HoldsSlice, contents_word, pin_count, pin_code};
 ghost use Rattle.slicefile.specs.Driver.{driver_of};
+ghost use Rattle.slicefile.specs.Refusals.{number, reason_of, refused};
 
 // The most slices and outside inputs of a file.
 pub const SLICE_LIMIT: usize = 64;
@@ -104,55 +105,125 @@ pub enum Driver {
     Output(Output),
 }
 
-// The decoder's answer: the driver of a pin code, or that no such driver exists.
-#[derive(Clone, Copy)]
-pub enum Decoded {
-    Driven(Driver),
-    Missing,
+// Why a file, a buffer or an argument is refused, in the order of the numbers that hosts see, from 1; and a number that names no reason, as a host's
+// words may hold.
+#[derive(Clone, Copy, Debug, PartialEq, Eq)]
+pub enum Reason {
+    Cut,
+    UnknownTag,
+    WrongLength,
+    NotDue,
+    OutsideList,
+    Combination,
+    NoDriver,
+    BytesAfterEnd,
+    OnLoop,
+    WrongBuffer,
+    OutOfRange,
+    Other(usize),
 }
 
-// The answer of a call that gives nothing back: a refusal's number and place, or that it was done.
-#[derive(Clone, Copy)]
-pub enum Answer {
-    Refused { number: usize, place: usize },
-    Done,
+impl From<Reason> for usize {
+    ghost from_gives = { λ r k. k ≡ number r };
+
+    fn from(reason: Reason) -> usize {
+        match reason {
+            Reason::Cut => 1,
+            Reason::UnknownTag => 2,
+            Reason::WrongLength => 3,
+            Reason::NotDue => 4,
+            Reason::OutsideList => 5,
+            Reason::Combination => 6,
+            Reason::NoDriver => 7,
+            Reason::BytesAfterEnd => 8,
+            Reason::OnLoop => 9,
+            Reason::WrongBuffer => 10,
+            Reason::OutOfRange => 11,
+            Reason::Other(number) => number,
+        }
+    }
 }
 
-// The driver that a pin code names in a file of n slices and m outside inputs.
-pub fn decode_driver(code: u16, n: usize, m: usize) -> Decoded
+impl From<usize> for Reason {
+    ghost from_gives = { λ k r. r ≡ reason_of k };
+
+    fn from(number: usize) -> Reason {
+        match number {
+            1 => Reason::Cut,
+            2 => Reason::UnknownTag,
+            3 => Reason::WrongLength,
+            4 => Reason::NotDue,
+            5 => Reason::OutsideList,
+            6 => Reason::Combination,
+            7 => Reason::NoDriver,
+            8 => Reason::BytesAfterEnd,
+            9 => Reason::OnLoop,
+            10 => Reason::WrongBuffer,
+            11 => Reason::OutOfRange,
+            _ => Reason::Other(number),
+        }
+    }
+}
+
+// A refusal: its reason, and its place.
+#[derive(Clone, Copy, Debug, PartialEq, Eq)]
+pub struct Refusal {
+    pub reason: Reason,
+    pub place: usize,
+}
+
+impl Reason {
+    // The refusal for this reason at a place.
+    pub fn at(self, place: usize) -> Refusal
+        ensures { result ≡ refused self place }
+    {
+        Refusal {
+            reason: self,
+            place,
+        }
+    }
+}
+
+// The size of a file: n slices and m outside inputs.
+#[derive(Clone, Copy, Debug, PartialEq, Eq)]
+pub struct Size {
+    pub n: usize,
+    pub m: usize,
+}
+
+// What is judged: a refusal, or the size of what is accepted.
+pub type Verdict = Result<Size, Refusal>;
+
+// The driver that a pin code names in a file of n slices and m outside inputs, if there is one.
+#[tactic(auto, unfolding(crate::specs::Driver::driver_of))]
+pub fn decode_driver(code: u16, n: usize, m: usize) -> Option<Driver>
     ensures { result ≡ driver_of code n m }
 {
-    let c = code as usize;
+    let c = usize::from(code);
     if c < 2 {
-        return Decoded::Driven(Driver::Constant(c == 1));
+        return Some(Driver::Constant(c == 1));
     }
     if c < 256 {
         if c == 2 {
-            return Decoded::Driven(Driver::Open);
+            return Some(Driver::Open);
         }
-        return Decoded::Missing;
+        return None;
     }
     if c < 4096 {
         let j = c - 256;
         if j < m {
-            return Decoded::Driven(Driver::Input(j));
+            return Some(Driver::Input(j));
         }
-        return Decoded::Missing;
+        return None;
     }
     let slice = (c - 4096) / 16;
     let output = c % 16;
     if slice < n {
         if output < 12 {
-            return Decoded::Driven(Driver::Output(Output { slice, output }));
+            return Some(Driver::Output(Output { slice, output }));
         }
     }
-    Decoded::Missing
-}
-
-fn wide(x: u8) -> u64
-    ensures { result ≡ x }
-{
-    x as u64
+    None
 }
 
 // A letter's contents word in a slice's body, low byte first.
@@ -160,19 +231,17 @@ pub fn contents_word(body: &[u8], l: usize) -> u64
     requires { HoldsSlice body.now × (l < 4) }
     ensures { result ≡ contents_word body.now l }
 {
-    let mut w: u64 = 0;
-    let mut i: usize = WORD;
-    while 0 < i {
-        i -= 1;
-        w = w * 256 + wide(body[CONTENTS + WORD * l + i]);
-    }
-    w
-}
-
-fn wide16(x: u8) -> u16
-    ensures { (result ≡ x) × (result < 256) }
-{
-    x as u16
+    let at = CONTENTS + WORD * l;
+    u64::from_le_bytes([
+        body[at],
+        body[at + 1],
+        body[at + 2],
+        body[at + 3],
+        body[at + 4],
+        body[at + 5],
+        body[at + 6],
+        body[at + 7],
+    ])
 }
 
 // A number of two bytes, low byte first.
@@ -180,7 +249,7 @@ pub fn pair_at(s: &[u8], i: usize) -> u16
     requires { i + 1 < length s.now }
     ensures { result ≡ pair_at s.now i }
 {
-    wide16(s[i]) + 256 * wide16(s[i + 1])
+    u16::from_le_bytes([s[i], s[i + 1]])
 }
 
 // The driver code of pin p in a slice's body.

@@ -1,20 +1,14 @@
 -- A record's bytes: their number, and the list that stores its fields one after another. Assumes nothing.
-use mathlib.Core.Path.{◌≡◌, refl, ◌∙◌, sym}
+use mathlib.Core.Path.{◌≡◌, refl, ◌∙◌}
 use mathlib.Core.List.{List, [], ◌∷◌, ◌++◌, append-nil, append_assoc}
-use Prim.Native.Nat.{ℕ, ◌+◌, ◌*◌}
-use native.Mathlib.Nat.{mul-suc, mul-zero}
+use Prim.Native.Nat.{ℕ, ◌+◌}
 use native.Mathlib.Omega.{arith}
 use lib.ListN.{length, replicate, length-append, drop_of_length-le}
 use lib.Seq.{sets}
 use Rattle.slicefile.specs.Format.{slice_tag, body_length, record_length}
-use Rattle.slicerecord.specs.Record.{bytes_of, all_bytes, body_bytes, record_bytes, Sized}
+use Rattle.slicerecord.specs.Record.{all_bytes, body_bytes, record_bytes, Sized}
 use Rattle.slicerecord.specs.declared.Record.{Record}
-use Rattle.slicerecord.proofs.Stores.{sets_next, sets_front, length_bytes_of}
-
-pub length_all_bytes : (k : ℕ) (ws : List ℕ) → length (all_bytes k ws) ≡ k * length ws
-unfolding all_bytes
-length_all_bytes k [] = sym (mul-zero k)
-length_all_bytes k (w ∷ ws) = rw (length-append (bytes_of k w) (all_bytes k ws), length_bytes_of k w, length_all_bytes k ws, mul-suc k (length ws)) (omega arith)
+use Rattle.slicerecord.proofs.Stores.{sets_next, sets_front, length_all_bytes}
 
 pub length_body_bytes : (r : Record) → Sized r → length (body_bytes r) ≡ body_length slice_tag
 unfolding body_bytes

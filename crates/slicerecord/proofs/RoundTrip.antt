@@ -9,7 +9,7 @@ use Rattle.slicefile.specs.Format.{slice_tag, body_length}
 use Rattle.slicerecord.specs.Record.{all_bytes, record_of, body_bytes, Below, Typed}
 use Rattle.slicerecord.specs.declared.Record.{Record}
 use Rattle.slicerecord.proofs.Pieces.{join, piece_byte, piece_bytes, piece_numbers, pairs_pieces}
-use Rattle.slicerecord.proofs.Encoding.{length_all_bytes}
+use Rattle.slicerecord.proofs.Stores.{length_all_bytes}
 use Rattle.slicerecord.proofs.Fields.{after, byte_field, bytes_field, numbers_field}
 
 -- the bytes of the record that a body holds are the body

@@ -5,7 +5,7 @@ ghost use Rattle.std.specs.Prelude.{◌≡◌, ◌+◌, ◌*◌, ◌≤◌, leng
 ghost use Rattle.std.proofs.lemmas.List.Edits.{sets};
 ghost use Rattle.slicefile.specs.Format.{byte_at, HoldsSlice, pin_count, pin_code};
 ghost use Rattle.slicefile.specs.Lists.{tabulate};
-ghost use Rattle.slicerecord.specs.Record.{letters, record_of, bytes_of, all_bytes, record_bytes};
+ghost use Rattle.slicerecord.specs.Record.{letters, record_of, all_bytes, record_bytes};
 
 use slicefile::{
     CARRY_DATA, CARRY_START, CODE, CONTENTS, HEAD, KIND, MAIN, MODE, MUX, NUMBER, PIN_COUNT, PINS,
@@ -78,10 +78,8 @@ fn pin_codes(body: &[u8]) -> [u16; PIN_COUNT]
     ensures { result ≡ tabulate 0 pin_count (pin_code body.now) }
 {
     let mut codes = [0u16; PIN_COUNT];
-    let mut p = 0;
-    while p < PIN_COUNT {
+    for p in 0..PIN_COUNT {
         codes[p] = slicefile::pin_code(body, p);
-        p += 1;
     }
     codes
 }
@@ -91,84 +89,54 @@ pub fn decode(body: &[u8]) -> Record
     requires { HoldsSlice body.now }
     ensures { result ≡ record_of body.now }
 {
-    let contents = [
-        slicefile::contents_word(body, 0),
-        slicefile::contents_word(body, 1),
-        slicefile::contents_word(body, 2),
-        slicefile::contents_word(body, 3),
-    ];
-    let modes = letter_bytes(body, MODE);
-    let shifts = letter_bytes(body, SHIFT_DATA);
-    let carries = letter_bytes(body, CARRY_DATA);
-    let muxes = letter_bytes(body, MUX);
-    let mains = letter_bytes(body, MAIN);
-    let seconds = letter_bytes(body, SECOND);
-    let pins = pin_codes(body);
     Record {
         number: body[NUMBER],
         kind: body[KIND],
-        modes,
-        shifts,
-        contents,
-        carries,
+        modes: letter_bytes(body, MODE),
+        shifts: letter_bytes(body, SHIFT_DATA),
+        contents: [
+            slicefile::contents_word(body, 0),
+            slicefile::contents_word(body, 1),
+            slicefile::contents_word(body, 2),
+            slicefile::contents_word(body, 3),
+        ],
+        carries: letter_bytes(body, CARRY_DATA),
         start: body[CARRY_START],
-        muxes,
-        mains,
-        seconds,
+        muxes: letter_bytes(body, MUX),
+        mains: letter_bytes(body, MAIN),
+        seconds: letter_bytes(body, SECOND),
         powerup: body[POWER_UP],
         resets: body[SET_RESET_VALUES],
         resettable: body[SET_RESET_USED],
-        pins,
+        pins: pin_codes(body),
     }
 }
 
-// Stores bytes from an offset on.
+// Stores bytes from an offset on: `copy_from_slice`, with the promise in the words that the callers need.
 pub fn put_bytes(out: &mut [u8], at: usize, src: &[u8])
     requires { at + length src.now ≤ length out.old }
     ensures { out.new ≡ sets out.old at src.now }
 {
-    let mut i = 0;
-    while i < src.len() {
-        out[at + i] = src[i];
-        i += 1;
-    }
+    out[at..at + src.len()].copy_from_slice(src);
 }
 
-// Stores the low k bytes of a number from an offset on, low byte first.
-fn put_number(out: &mut [u8], at: usize, k: usize, w: u64)
-    requires { at + k ≤ length out.old }
-    ensures { out.new ≡ sets out.old at (bytes_of k w) }
-{
-    let mut rest = w;
-    let mut i = 0;
-    while i < k {
-        out[at + i] = (rest % 256) as u8;
-        rest /= 256;
-        i += 1;
-    }
-}
-
-// Stores words of contents, 8 bytes each.
+// Stores words of contents, 8 bytes each, low byte first. One function for words and codes would want a trait for `to_le_bytes` with its law, longer than both.
 fn put_words(out: &mut [u8], at: usize, words: &[u64])
     requires { at + 8 * length words.now ≤ length out.old }
     ensures { out.new ≡ sets out.old at (all_bytes 8 words.now) }
 {
-    let mut i = 0;
-    while i < words.len() {
-        put_number(out, at + WORD * i, WORD, words[i]);
-        i += 1;
+    for (i, word) in words.iter().enumerate() {
+        put_bytes(out, at + WORD * i, &word.to_le_bytes());
     }
 }
 
-// Stores driver codes, 2 bytes each.
+// Stores driver codes, 2 bytes each, low byte first.
 fn put_codes(out: &mut [u8], at: usize, codes: &[u16])
     requires { at + 2 * length codes.now ≤ length out.old }
     ensures { out.new ≡ sets out.old at (all_bytes 2 codes.now) }
 {
-    let mut i = 0;
-    while i < codes.len() {
-        put_number(out, at + CODE * i, CODE, codes[i] as u64);
-        i += 1;
+    for (i, code) in codes.iter().enumerate() {
+        put_bytes(out, at + CODE * i, &code.to_le_bytes());
     }
 }
 
@@ -177,28 +145,20 @@ pub fn encode(slice: Record) -> [u8; SLICE_RECORD]
     ensures { result ≡ record_bytes slice }
 {
     let mut out = [0u8; SLICE_RECORD];
-    let modes = slice.modes;
-    let shifts = slice.shifts;
-    let contents = slice.contents;
-    let carries = slice.carries;
-    let muxes = slice.muxes;
-    let mains = slice.mains;
-    let seconds = slice.seconds;
-    let pins = slice.pins;
     put_bytes(&mut out, 0, &[TAG, LENGTH, 0, slice.number, slice.kind]);
-    put_bytes(&mut out, MODES_AT, &modes);
-    put_bytes(&mut out, SHIFTS_AT, &shifts);
-    put_words(&mut out, CONTENTS_AT, &contents);
-    put_bytes(&mut out, CARRIES_AT, &carries);
+    put_bytes(&mut out, MODES_AT, &slice.modes);
+    put_bytes(&mut out, SHIFTS_AT, &slice.shifts);
+    put_words(&mut out, CONTENTS_AT, &slice.contents);
+    put_bytes(&mut out, CARRIES_AT, &slice.carries);
     put_bytes(&mut out, START_AT, &[slice.start]);
-    put_bytes(&mut out, MUXES_AT, &muxes);
-    put_bytes(&mut out, MAINS_AT, &mains);
-    put_bytes(&mut out, SECONDS_AT, &seconds);
+    put_bytes(&mut out, MUXES_AT, &slice.muxes);
+    put_bytes(&mut out, MAINS_AT, &slice.mains);
+    put_bytes(&mut out, SECONDS_AT, &slice.seconds);
     put_bytes(
         &mut out,
         POWERUP_AT,
         &[slice.powerup, slice.resets, slice.resettable],
     );
-    put_codes(&mut out, PINS_AT, &pins);
+    put_codes(&mut out, PINS_AT, &slice.pins);
     out
 }

@@ -1,2 +1,3 @@
+pub mod InputCodes
 pub mod OpenLaws
 pub mod PinLaws

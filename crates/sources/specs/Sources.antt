@@ -1,6 +1,6 @@
 -- Where a slice takes its bits from. n and m are the file's slice count and outside inputs, s is a slice's number, body the body of its record, p a pin, k a
 -- signal of the slice, l a letter (A to D count 0 to 3).
-use Rattle.std.specs.Prelude.{ℕ, ◌+◌, ◌*◌, ◌≤◌, ◌<◌, ◌≡◌, true, false, cond, List, ◌∷◌, ltb, eqb}
+use Rattle.std.specs.Prelude.{ℕ, Option, None, Some, ◌+◌, ◌*◌, ◌≤◌, ◌<◌, ◌≡◌, true, false, cond, List, ◌∷◌, ltb, eqb}
 use Rattle.netlist.specs.Rule.{value_of, signals_in, is_input}
 use Rattle.netlist.specs.Table.{slice_signals, code_of}
 use Rattle.netlist.specs.declared.Source.{Source}
@@ -10,12 +10,14 @@ use Rattle.slicefile.specs.Format.{HoldsSlice, pin_count, pin_code}
 use Rattle.slicefile.specs.Driver.{driver_of}
 use Rattle.slicefile.specs.declared.Driver.{Driver}
 use Rattle.slicefile.specs.declared.Driver.TheVariants as driver
-use Rattle.slicefile.specs.declared.Decoded.{Decoded}
-use Rattle.slicefile.specs.declared.Decoded.TheVariants.{Driven, Missing}
 
 -- the code's promises hold of columns of up to this many slices
 abbrev pub column_limit : ℕ
 column_limit = 1024
+
+-- "256+j is outside input j", and codes from 4096 on are outputs
+abbrev pub input_codes : ℕ
+input_codes = 3840
 
 -- signal k of slice s
 abbrev pub own : ℕ → ℕ → Source
@@ -33,9 +35,9 @@ driver_source (driver.Input j) = Input j
 driver_source (driver.Output o) = own o.slice (output_signal o.output)
 
 -- a file with a missing driver is refused and has no netlist
-abbrev pub decoded_source : Decoded → Source
-decoded_source (Driven d) = driver_source d
-decoded_source Missing = Constant false
+abbrev pub decoded_source : Option Driver → Source
+decoded_source (Some d) = driver_source d
+decoded_source None = Constant false
 
 unfoldable pub pin_source : ℕ → ℕ → List ℕ → ℕ → Source
 pin_source n m body p = decoded_source (driver_of (pin_code body p) n m)

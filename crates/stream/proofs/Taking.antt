@@ -1,28 +1,27 @@
 -- A run taken into a store: what stands at its front is what was seen, as far as it finds room. Assumes nothing.
 use mathlib.Core.Path.{◌≡◌, ◌∙◌, refl, sym, ap, ap₂, subst}
 use mathlib.Core.Bool.{Bool, true, false, true≢false, ◌||◌}
+use Rattle.std.specs.Prelude.{Some, None, Ok, Err}
 use mathlib.Core.List.{List, ◌++◌, append_assoc}
 use Prim.Native.Nat.{ℕ, ◌+◌, ◌-◌, ◌≤◌, ◌<◌}
 use native.Mathlib.Omega.{arith}
 use borrow.Author.Tests.{lt-ltb, le-ltb, ltb-false}
+use borrow.Rule.Slice.PartMut.{put_mid}
 use lib.Dec.{ltb}
 use lib.ListN.{length, take, drop, length-append, length-drop, take-append-drop}
-use lib.Seq.{sets, sets-eq, take_at, take_all, length-take-le}
+use lib.Seq.{sets, sets-eq, take_at, take_all, length-sets, length-take-le}
 use Rattle.slicefile.specs.Format.{slice_limit}
+use Rattle.slicefile.specs.declared.Reason.TheVariants.{Cut, BytesAfterEnd}
+use Rattle.slicefile.specs.Refusals.{refused, Verdict}
+use Rattle.slicerecord.proofs.Stores.{sets_part}
 use Rattle.slicefile.proofs.Tests.{or_left, or_right}
 use Rattle.column.specs.File.{file_limit}
 use Rattle.column.specs.Check.{check_file, check_from}
 use Rattle.column.specs.Judge.{Judged}
-use Rattle.column.specs.declared.Checked.{Checked}
-use Rattle.column.specs.declared.Checked.TheVariants.{Bad, Sound}
-use Rattle.column.specs.declared.Verdict.{Verdict}
-use Rattle.column.specs.declared.Verdict.TheVariants.{Refused}
 use Rattle.column.proofs.CheckLaws.{from_start}
 use Rattle.column.proofs.PrefixLaws.{check_cut, full_bad, full_over}
-use Rattle.stream.specs.declared.Reply.{Reply}
-use Rattle.stream.specs.declared.Reply.TheVariants.{More, Given}
 use Rattle.stream.specs.declared.Reader.{Reader}
-use Rattle.stream.specs.Feeding.{reader, foreign, seen, fitting, final, early, StaysInside, overfull, Hears, judged, certain, waits, Takes}
+use Rattle.stream.specs.Feeding.{Reply, reader, foreign, seen, fitting, final, early, StaysInside, overfull, Hears, judged, certain, waits, Takes}
 use Rattle.stream.proofs.Hearing.{more_or_given, early_other, given_early, hears_all, hears_more}
 
 -- ---- stores
@@ -32,6 +31,12 @@ pub front_stored : (l vs : List ℕ) (i : ℕ) → i + length vs ≤ length l �
 front_stored l vs i h =
     ap (take (i + length vs)) (sets-eq vs l i h)
     ∙ take_at (take i l ++ vs) (drop (i + length vs) l) (i + length vs) (length-append (take i l) vs ∙ ap (λ (k : ℕ). k + length vs) (length-take-le i l (omega arith)))
+
+-- a part of a list, written in one go, is a run stored
+pub part_stored : (l xs : List ℕ) (at k : ℕ) {ys : List ℕ} → k ≡ length xs → at + length xs ≤ length l → ys ≡ xs → put_mid at k l ys ≡ sets l at xs
+part_stored l xs at k {ys} size h e =
+    let same : k ≡ at + length xs - at = omega arith in
+    ap (λ (j : ℕ). put_mid at j l ys) same ∙ sets_part l xs at h e
 
 -- ---- tests
 
@@ -49,9 +54,6 @@ own_len r e = ltb-false file_limit r.len (or_left (ltb file_limit r.len) (ltb sl
 
 pub own_passed : (r : Reader) → foreign r ≡ false → r.passed ≤ slice_limit
 own_passed r e = ltb-false slice_limit r.passed (or_right (ltb file_limit r.len) (ltb slice_limit r.passed) e)
-
-pub start_own : (len : ℕ) → len ≤ file_limit → foreign (reader len 0 More) ≡ false
-start_own len h = rw (le-ltb file_limit len h)
 
 -- ---- the bytes seen
 module _ (r : Reader) (store run : List ℕ) (full : length store ≡ file_limit) (own : r.len ≤ file_limit) where
@@ -90,17 +92,17 @@ module _ (r : Reader) (store run : List ℕ) (full : length store ≡ file_limit
 
 -- what is said of a full store stands for all bytes behind it
 full_judged : (bytes x : List ℕ) {len : ℕ} {b : Bool} {next : Reader} → length bytes ≡ file_limit → 0 < length x → b ≡ false → Hears bytes len 0 b next
-    → (v : Verdict) × Judged (bytes ++ x) v × (overfull next.said ≡ Given v)
+    → (v : Verdict) × Judged (bytes ++ x) v × (overfull next.said ≡ Some v)
 full_judged bytes x full some e (judged j) = absurd (true≢false e)
 full_judged bytes x full some e (certain {v} g) =
     let k = given_early (check_from 0 bytes) g in
-    (v, subst (Judged (bytes ++ x)) k.4 (full_bad bytes x (omega arith) (sym (from_start bytes) ∙ k.2)), refl)
-full_judged bytes x full some e (waits g) = (Refused 8 file_limit, go (check_file bytes) refl (ap early (sym (from_start bytes)) ∙ g), refl)
+    (v, subst (Judged (bytes ++ x)) k.3 (full_bad bytes x (omega arith) (sym (from_start bytes) ∙ k.1)), refl)
+full_judged bytes x full some e (waits g) = (Err (refused BytesAfterEnd file_limit), go (check_file bytes) refl (ap early (sym (from_start bytes)) ∙ g), refl)
   where
-    go : (c : Checked) → check_file bytes ≡ c → early (check_file bytes) ≡ More → Judged (bytes ++ x) (Refused 8 file_limit)
-    go (Sound n m) s m' = full_over bytes x full some s
-    go (Bad k p) s m' =
-        let other : k ≡ 1 → ⊥ = λ z. omega (arith, check_cut bytes (subst (λ (j : ℕ). check_file bytes ≡ Bad j p) z s)) in
+    go : (c : Verdict) → check_file bytes ≡ c → early (check_file bytes) ≡ None → Judged (bytes ++ x) (Err (refused BytesAfterEnd file_limit))
+    go (Ok size) s m' = full_over bytes x full some s
+    go (Err r) s m' =
+        let other : r.reason ≡ Cut → ⊥ = λ z. omega (arith, check_cut bytes z s) in
         absurd (more_or_given (early (check_file bytes)) m' (ap early s ∙ sym (early_other other)))
 
 -- ---- the two ways to take a run
@@ -109,26 +111,6 @@ pub same_hears : {bytes bytes' : List ℕ} {len len' passed : ℕ} {b b' : Bool}
 same_hears e f g h = rw (← e, ← f, ← g) h
 
 module _ (r : Reader) (store run : List ℕ) (full : length store ≡ file_limit) (own : r.len ≤ file_limit) (last : Bool) where
-  over_heard : file_limit - r.len < length run → {next : Reader} {said : Reply} {len : ℕ} → said ≡ overfull next.said
-      → (let front = seen (reader r.len 0 More) store (fitting r run) in Hears front len 0 (final false front) next)
-      → Hears (seen r store run) file_limit r.passed (final last (seen r store run)) (reader file_limit r.passed said)
-  over_heard long {next} {said} e h =
-      let room = file_limit - r.len in
-      let part = fitting r run in
-      let start = reader r.len 0 More in
-      let sized : length part ≡ room = fitting_length r store run full own long in
-      go (full_judged (seen start store part) (drop room run) (seen_length start store part full own ∙ omega arith) (omega (arith, length-drop room run)) (not_final start store part full own (omega arith) false) h)
-    where
-      all : seen (reader r.len 0 More) store (fitting r run) ++ drop (file_limit - r.len) run ≡ seen r store run
-      all =
-          append_assoc (take r.len store) (fitting r run) (drop (file_limit - r.len) run)
-          ∙ ap (λ (l : List ℕ). take r.len store ++ l) (take-append-drop (file_limit - r.len) run)
-
-      go : ((v : Verdict) × Judged (seen (reader r.len 0 More) store (fitting r run) ++ drop (file_limit - r.len) run) v × (overfull next.said ≡ Given v))
-          → Hears (seen r store run) file_limit r.passed (final last (seen r store run)) (reader file_limit r.passed said)
-      go (v, j, g) =
-          rw (e ∙ g) (hears_all (seen r store run) file_limit r.passed (is_final r store run full own long last) (subst (λ (l : List ℕ). Judged l v) all j))
-
   -- all of it fits: the reader after the bytes at the front
   module _ (fits : length run ≤ file_limit - r.len) {after : List ℕ} (stored : after ≡ sets store r.len run) where
     abbrev bytes : List ℕ
@@ -145,20 +127,43 @@ module _ (r : Reader) (store run : List ℕ) (full : length store ≡ file_limit
           hears = same_hears front (ap (λ (l : List ℕ). r.len + length l) (sym whole)) (sym (not_final r store run full own fits last)) h;
         }
 
+    -- while more may come
+    pub takes_heard : last ≡ false → {next : Reader} → Hears bytes (length bytes) r.passed false next → Takes r store run last next after
+    takes_heard e h = takes_all (same_hears refl (ap length front ∙ seen_length r store run full own) (sym e) h)
+
     -- without a check, inside a slice
-    pub takes_inside : last ≡ false → StaysInside (take r.len store) r.passed (length run) → Takes r store run last (reader (r.len + length run) r.passed More) after
+    pub takes_inside : last ≡ false → StaysInside (take r.len store) r.passed (length run) → Takes r store run last (reader (r.len + length run) r.passed None) after
     takes_inside e i =
         let w = i.waits run refl in
         takes_all (same_hears (sym front) refl refl (hears_more (seen r store run) (r.len + length run) r.passed e w.0 refl w.1))
 
-  -- some of it doesn't: what is said of the part that does
-  pub takes_over : (long : file_limit - r.len < length run) {next : Reader} {after : List ℕ} {said : Reply} → said ≡ overfull next.said
-      → Takes (reader r.len 0 More) store (take (file_limit - r.len) run) false next after → Takes r store run last (reader file_limit r.passed said) after
-  takes_over long {next} {after} {said} e t =
-      let part = fitting r run in
-      let sized : length part ≡ file_limit - r.len = fitting_length r store run full own long in
-      let start = reader r.len 0 More in
-      record {
-        stored = t.stored ∙ ap (sets store r.len) (all_fitting start store part full own (omega arith));
-        hears = same_hears refl (omega arith) refl (over_heard long e t.hears);
-      }
+  -- some of it doesn't: what is said of the store, full of the part that does
+  module _ (long : file_limit - r.len < length run) where
+    abbrev part : List ℕ
+    part = fitting r run
+
+    abbrev rest : List ℕ
+    rest = drop (file_limit - r.len) run
+
+    sized : r.len + length part ≡ file_limit
+    sized = omega (arith, fitting_length r store run full own long)
+
+    whole : {after : List ℕ} → after ≡ sets store r.len part → after ≡ take r.len store ++ part
+    whole stored =
+        stored ∙ sym (take_all (r.len + length part) (sets store r.len part) (omega (arith, length-sets store r.len part, sized))) ∙ front_stored store part r.len (omega (arith, sized))
+
+    all : {after : List ℕ} → after ≡ sets store r.len part → after ++ rest ≡ seen r store run
+    all stored =
+        ap (λ (l : List ℕ). l ++ rest) (whole stored)
+        ∙ append_assoc (take r.len store) part rest
+        ∙ ap (λ (l : List ℕ). take r.len store ++ l) (take-append-drop (file_limit - r.len) run)
+
+    pub takes_over : {next : Reader} {after : List ℕ} {said : Reply} → said ≡ overfull next.said → after ≡ sets store r.len part → Hears after (length after) 0 false next
+        → Takes r store run last (reader file_limit r.passed said) after
+    takes_over {next} {after} {said} e stored h =
+        let g = full_judged after rest (ap length stored ∙ length-sets store r.len part ∙ full) (omega (arith, length-drop (file_limit - r.len) run)) refl h in
+        record {
+          stored = stored;
+          hears = same_hears refl (sym sized) refl
+              (rw (e ∙ g.2) (hears_all (seen r store run) file_limit r.passed (is_final r store run full own long last) (subst (λ (l : List ℕ). Judged l g.0) (all stored) g.1)));
+        }

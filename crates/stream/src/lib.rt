@@ -1,62 +1,49 @@
 // A file that comes in runs of bytes: a reader says "more", or its verdict as soon as it is certain.
 #![tactic(auto)]
 
-ghost use Rattle.std.specs.Prelude.{◌≡◌, true, false, ◌≤◌, length};
+ghost use Rattle.std.specs.Prelude.{◌≡◌, true, false, ◌≤◌, length, Some, Err};
 ghost use Rattle.slicefile.specs.Format.{slice_limit};
+ghost use Rattle.slicefile.specs.Refusals.{refused};
 ghost use Rattle.column.specs.File.{file_limit};
 ghost use Rattle.stream.specs.Feeding.{foreign, early, StaysInside, overfull, Hears, Takes, Feeds};
 
-use column::{Checked, FILE_LIMIT, Verdict};
-use slicefile::{HEAD, SIZE_RECORD, SLICE_COUNT, SLICE_LIMIT, SLICE_RECORD, SLICE_TAG};
+use column::FILE_LIMIT;
+use slicefile::{
+    HEAD, Reason, SIZE_RECORD, SLICE_COUNT, SLICE_LIMIT, SLICE_RECORD, SLICE_TAG, Verdict,
+};
 
-// What a reader says: that more bytes are needed, or its verdict.
-#[derive(Clone, Copy)]
-pub enum Reply {
-    More,
-    Given(Verdict),
-}
-
-// What is handed from call to call besides the store: how many bytes stand in it, how many slices passed, and what was said last.
+// What is handed from call to call besides the store: how many bytes stand in it, how many slices passed, and what was said last: a
+// verdict, or that more bytes are needed.
 #[derive(Clone, Copy)]
 pub struct Reader {
     pub len: usize,
     pub passed: usize,
-    pub said: Reply,
+    pub said: Option<Verdict>,
 }
 
-// What a call gives: its reply, and the reader for the next one.
+// What a call gives: its reply, which is "more" or a verdict, and the reader for the next one.
 #[derive(Clone, Copy)]
 pub struct Fed {
-    pub reply: Reply,
+    pub reply: Option<Verdict>,
     pub reader: Reader,
 }
 
 // What a check says while more bytes may come: a refusal but 1 stays whatever they are.
-fn early_reply(checked: Checked) -> Reply
+fn early_reply(checked: Verdict) -> Option<Verdict>
     ensures { result ≡ early checked }
 {
     match checked {
-        Checked::Bad { number, place } => {
-            if number == 1 {
-                return Reply::More;
-            }
-            Reply::Given(Verdict::Refused { number, place })
-        }
-        Checked::Sound { n, m } => Reply::More,
+        Err(refusal) if refusal.reason == Reason::Cut => None,
+        Err(_) => Some(checked),
+        Ok(_) => None,
     }
 }
 
 // What is said of a full store when more bytes come: a verdict stays, and a file that waits for nothing but its end has bytes after it.
-fn overfull_reply(said: Reply) -> Reply
+fn overfull_reply(said: Option<Verdict>) -> Option<Verdict>
     ensures { result ≡ overfull said }
 {
-    match said {
-        Reply::More => Reply::Given(Verdict::Refused {
-            number: 8,
-            place: FILE_LIMIT,
-        }),
-        Reply::Given(verdict) => said,
-    }
+    said.or(Some(Err(Reason::BytesAfterEnd.at(FILE_LIMIT))))
 }
 
 // The reader after bytes that all stand in its store, while more may come.
@@ -66,11 +53,10 @@ fn hear(bytes: &[u8], passed: usize) -> Reader
 {
     let len = bytes.len();
     let progress = column::check_from(bytes, passed);
-    let checked = progress.checked;
-    let said = early_reply(checked);
-    let Reply::More = said else {
+    let said = early_reply(progress.checked);
+    if said.is_some() {
         return Reader { len, passed, said };
-    };
+    }
     Reader {
         len,
         passed: progress.passed,
@@ -78,8 +64,7 @@ fn hear(bytes: &[u8], passed: usize) -> Reader
     }
 }
 
-// Takes a run into the store of a reader that has given no verdict yet. Of one that finds no room, what does is taken first and checked from its
-// start.
+// Takes a run into the store of a reader that has given no verdict yet. Of one that finds no room, what does is checked from its start.
 fn take_run(reader: Reader, store: &mut [u8], run: &[u8], last: bool) -> Reader
     requires { (length store.old ≡ file_limit) × (foreign reader ≡ false) }
     ensures { Takes reader store.old run.now last result store.new }
@@ -88,28 +73,22 @@ fn take_run(reader: Reader, store: &mut [u8], run: &[u8], last: bool) -> Reader
     let passed = reader.passed;
     let room = FILE_LIMIT - at;
     if room < run.len() {
-        let start = Reader {
-            len: at,
-            passed: 0,
-            said: Reply::More,
-        };
-        let full = take_run(start, store, &run[..room], false);
-        let said = full.said;
+        store[at..].copy_from_slice(&run[..room]);
+        let full = hear(store, 0);
         return Reader {
             len: FILE_LIMIT,
             passed,
-            said: overfull_reply(said),
+            said: overfull_reply(full.said),
         };
     }
-    slicerecord::put_bytes(store, at, run);
-    let end = at + run.len();
-    let bytes = &store[..end];
+    let len = at + run.len();
+    store[at..len].copy_from_slice(run);
+    let bytes = &store[..len];
     if last {
-        let verdict = column::judge(bytes);
         return Reader {
-            len: end,
+            len,
             passed,
-            said: Reply::Given(verdict),
+            said: Some(column::judge(bytes)),
         };
     }
     hear(bytes, passed)
@@ -121,23 +100,15 @@ fn stays_inside(bytes: &[u8], passed: usize, more: usize) -> bool
     ensures { result ≡ true → StaysInside bytes.now passed more }
 {
     let at = SIZE_RECORD + SLICE_RECORD * passed;
-    if bytes.len() < at + HEAD {
-        return false;
-    }
-    if SLICE_RECORD <= more {
-        return false;
-    }
-    if at + SLICE_RECORD <= bytes.len() + more {
-        return false;
-    }
-    if framing::size_refusal(bytes) != 0 {
-        return false;
-    }
-    let n = bytes[SLICE_COUNT] as usize;
-    if n <= passed {
-        return false;
-    }
-    framing::header_refusal(SLICE_TAG, &bytes[at..]) == 1
+    let left = (at + SLICE_RECORD).saturating_sub(bytes.len());
+    at + HEAD <= bytes.len()
+        && more < left
+        && framing::size_refusal(bytes).is_ok()
+        && passed < usize::from(bytes[SLICE_COUNT])
+        && matches!(
+            framing::header_refusal(SLICE_TAG, &bytes[at..]),
+            Err(Reason::Cut)
+        )
 }
 
 // Takes a run. In the body of a slice, where most runs of a few bytes end, there is nothing to check.
@@ -151,20 +122,21 @@ fn take(reader: Reader, store: &mut [u8], run: &[u8], last: bool) -> Reader
     if last | !waits {
         return take_run(reader, store, run, last);
     }
-    slicerecord::put_bytes(store, at, run);
+    let len = at + run.len();
+    store[at..len].copy_from_slice(run);
     Reader {
-        len: at + run.len(),
+        len,
         passed,
-        said: Reply::More,
+        said: None,
     }
 }
 
 // A refusal that leaves the reader as it was.
-fn kept(number: usize, reader: Reader) -> Fed
-    ensures { (result.reply ≡ Reply.Given (Verdict.Refused number 0)) × (result.reader ≡ reader) }
+fn kept(reason: Reason, reader: Reader) -> Fed
+    ensures { (result.reply ≡ Some (Err (refused reason 0))) × (result.reader ≡ reader) }
 {
     Fed {
-        reply: Reply::Given(Verdict::Refused { number, place: 0 }),
+        reply: Some(Err(reason.at(0))),
         reader,
     }
 }
@@ -174,22 +146,20 @@ pub fn feed(reader: Reader, store: &mut [u8], run: &[u8], last: bool) -> Fed
     ensures { Feeds reader store.old run.now last result store.new }
 {
     if store.len() != FILE_LIMIT {
-        return kept(10, reader);
+        return kept(Reason::WrongBuffer, reader);
     }
-    let said = reader.said;
-    let Reply::More = said else {
+    if reader.said.is_some() {
         return Fed {
-            reply: said,
+            reply: reader.said,
             reader,
         };
-    };
+    }
     if (FILE_LIMIT < reader.len) | (SLICE_LIMIT < reader.passed) {
-        return kept(11, reader);
+        return kept(Reason::OutOfRange, reader);
     }
     let next = take(reader, store, run, last);
-    let reply = next.said;
     Fed {
-        reply,
+        reply: next.said,
         reader: next,
     }
 }

@@ -13,7 +13,7 @@ use Rattle.netlist.specs.Graph.Depends.{direct, through}
 use Rattle.netlist.specs.Settle.{reads_in}
 use Rattle.toposort.specs.declared.Scan.{Scan}
 use Rattle.toposort.specs.Tally.{last_mark, done_mark}
-use Rattle.toposort.specs.Search.{Search, search_of, with_best, cut_to}
+use Rattle.toposort.specs.Search.{Search, search_of, marked, finished, with_best, cut_to}
 use Rattle.toposort.specs.Components.{Open, IsTop, On, Closed, Within, Passed, TopReady, Reaches, Above, Listed, Components, Extends}
 use Rattle.netlist.proofs.Order.{depends_more, depends_trans}
 use Rattle.netlist.proofs.Loops.{before_set}
@@ -30,14 +30,6 @@ below_or_not {C} i j f g = go (dec_lt i j)
 
 -- ---- what the moves leave
 
--- a mark is set
-abbrev pub marked : Search → ℕ → ℕ → Search
-marked b x v = search_of (set b.marks x v) b.pos b.stack b.heads b.path b.order
-
--- the top is done
-abbrev pub finished : Search → Scan → ℕ → Search
-finished b p top = search_of (set b.marks top done_mark) b.pos b.stack b.heads b.path (set b.order p.done top)
-
 -- y is opened with mark m
 abbrev pub opened : Search → Scan → ℕ → ℕ → Search
 opened b p y m =
@@ -51,10 +43,6 @@ one_more p =
 -- the last two components are one
 abbrev pub merged : Scan → Scan
 merged p = record { next = p.next; depth = p.depth; len = p.len; count = p.count - 1; done = p.done; best = p.best }
-
--- a root is passed
-abbrev pub passed : Scan → Scan
-passed p = record { next = p.next + 1; depth = p.depth; len = p.len; count = p.count; done = p.done; best = p.best }
 
 -- ---- what follows
 

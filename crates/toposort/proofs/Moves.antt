@@ -6,16 +6,16 @@ use native.Mathlib.Omega.{arith}
 use lib.ListN.{length, get_or, length-set}
 use lib.Seq.{get_or-set_other}
 use Rattle.netlist.specs.declared.Gate.{Gate}
-use Rattle.toposort.specs.declared.Read.TheVariants.{Signal}
+use Rattle.std.specs.Prelude.{Some}
 use Rattle.netlist.specs.Graph.{Reads, Loop, Before}
 use Rattle.netlist.specs.Settle.{reads_in}
 use Rattle.toposort.specs.Tally.{last_mark, done_mark}
 use Rattle.toposort.specs.Reading.{read_at}
 use Rattle.toposort.specs.declared.Scan.{Scan}
-use Rattle.toposort.specs.Search.{Search, with_best, cut_to}
+use Rattle.toposort.specs.Search.{Search, with_best, cut_to, marked, finished}
 use Rattle.toposort.specs.Components.{Open, IsTop, On, Closed, Within, Passed, Reaches, Components, Moved}
 use Rattle.toposort.proofs.Tally.{same_or_not, stored, tally_keep, room_less}
-use Rattle.toposort.proofs.Components.{below_or_not, marked, finished, merged, same_order, reaches_read, depends_reaches}
+use Rattle.toposort.proofs.Components.{below_or_not, merged, same_order, reaches_read, depends_reaches}
 use Rattle.toposort.proofs.Components.{on_or_not, same_place, closed_up, closed_down, inside, stack_on, on_seen, reach_on, listed_keep, listed_add}
 use Rattle.toposort.proofs.Components.{order_room, closed_done, passed_read, judged_on, top_on, top_open, top_below, path_le}
 use Rattle.toposort.proofs.Components.{heads_le, count_some, reach_top, top_loop}
@@ -27,7 +27,7 @@ module _ {g : ℕ → Gate} {N : ℕ} {b : Search} {p : Scan} (s : Components g 
   module _ {top : ℕ} (t : IsTop path p top) where
     -- the top's read at place m - 1 is done
     pub raise : (m best' : ℕ) → next < N → get_or marks top 0 ≡ m → (m ≡ last_mark → ⊥) → best' ≤ best → (best' < N → Loop (reads_in g) best')
-        → ((i y : ℕ) → suc i ≡ m → read_at g top i ≡ Signal y → Passed b (with_best p best') top y)
+        → ((i y : ℕ) → suc i ≡ m → read_at g top i ≡ Some y → Passed b (with_best p best') top y)
         → Moved g N marks order p (marked b top (m + 1)) (with_best p best')
     raise m best' l e d less-or-same bl new = (
       record {
@@ -99,7 +99,7 @@ module _ {g : ℕ → Gate} {N : ℕ} {b : Search} {p : Scan} (s : Components g 
 
     -- the top reads a signal of its component
     pub meet : (m y best' : ℕ) → next < N → get_or marks top 0 ≡ m → (m ≡ last_mark → ⊥) → best' ≤ best → best' ≤ top → (best' ≡ best) ⊎ (best' ≡ top)
-        → Reads (reads_in g) top y → ((i z : ℕ) → suc i ≡ m → read_at g top i ≡ Signal z → z ≡ y)
+        → Reads (reads_in g) top y → ((i z : ℕ) → suc i ≡ m → read_at g top i ≡ Some z → z ≡ y)
         → On b p y → get_or heads (count - 1) 0 ≤ get_or pos y 0
         → Moved g N marks order p (marked b top (m + 1)) (with_best p best')
     meet m y best' l e d low low' which r only o w =

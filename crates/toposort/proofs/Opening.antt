@@ -1,4 +1,4 @@
--- The start of the search, the opening of a signal, the passing of a root, and what the search says at its end. Assumes nothing.
+-- The start of the search, the opening of a signal, and what the search says at its end. Assumes nothing.
 use Prim.Native.Nat.{ℕ, suc, ◌+◌, ◌*◌, ◌≤◌, ◌<◌, zero-le}
 use mathlib.Core.Path.{◌≡◌, refl, sym, ◌∙◌}
 use mathlib.Core.Logic.{inl, inr, ⊎_elim}
@@ -11,14 +11,14 @@ use Rattle.netlist.specs.Graph.Depends.{direct, through}
 use Rattle.netlist.specs.Rule.{sources_of}
 use Rattle.netlist.specs.Settle.{reads_in}
 use Rattle.netlist.specs.Table.{signal_count, flop_signal}
-use Rattle.toposort.specs.declared.Read.TheVariants.{Signal}
+use Rattle.std.specs.Prelude.{Some}
 use Rattle.toposort.specs.Tally.{last_mark, done_mark}
 use Rattle.toposort.specs.Reading.{read_at}
 use Rattle.toposort.specs.declared.Scan.{Scan}
-use Rattle.toposort.specs.Search.{Search}
+use Rattle.toposort.specs.Search.{Search, first_scan}
 use Rattle.toposort.specs.Components.{Open, Sized, FlopsListed, On, Closed, Passed, Above, Components, Moved, Least}
-use Rattle.toposort.proofs.Tally.{same_or_not, stored, in_list, tally_less, tally_le, tally_all, room_less}
-use Rattle.toposort.proofs.Components.{below_or_not, opened, one_more, passed, same_order, inside, stack_on, on_seen, listed_keep}
+use Rattle.toposort.proofs.Tally.{stored, in_list, tally_less, tally_le, tally_all, room_less}
+use Rattle.toposort.proofs.Components.{below_or_not, opened, one_more, same_order, inside, stack_on, on_seen, listed_keep}
 use Rattle.toposort.proofs.Components.{closed_done, empty, depth_le, count_le}
 
 module _ {g : ℕ → Gate} {N : ℕ} {b : Search} {p : Scan} (s : Components g N b p) where
@@ -30,7 +30,7 @@ module _ {g : ℕ → Gate} {N : ℕ} {b : Search} {p : Scan} (s : Components g 
     len_lt = omega (arith, s.placed.fits, tally_less 0 marks y 1 (inside s y h) new (λ p. omega arith))
 
     pub push : (m : ℕ) → 0 < m → m < done_mark → last_mark ≤ m + length (sources_of (g y))
-        → ((i z : ℕ) → suc i < m → read_at g y i ≡ Signal z → ⊥) → next < N → Above g stack p y
+        → ((i z : ℕ) → suc i < m → read_at g y i ≡ Some z → ⊥) → next < N → Above g stack p y
         → Moved g N marks order p (opened b p y m) (one_more p)
     push m some few enough none l into = (
       record {
@@ -204,32 +204,6 @@ module _ {g : ℕ → Gate} {N : ℕ} {b : Search} {p : Scan} (s : Components g 
   pub above_root : (y : ℕ) → depth ≡ 0 → Above g stack p y
   above_root y e i l = absurd (omega (arith, empty s e))
 
-  -- a root that is seen is passed
-  pub pass : next < N → (get_or marks next 0 ≡ 0 → ⊥) → depth ≡ 0 → Moved g N marks order p b (passed p)
-  pass l d e = (
-    record {
-      bounded = s.bounded;
-      sized = s.sized;
-      next_le = omega arith;
-      ended = λ _. e;
-      low = s.low;
-      started = λ z m. same_or_not z next (λ p. rw p (omega arith)) (λ p. s.started z (omega arith));
-      at_places = s.at_places;
-      placed = s.placed;
-      headed = s.headed;
-      pathed = s.pathed;
-      reach = s.reach;
-      looked = s.looked;
-      closed = s.closed;
-      judged = s.judged;
-      best_le = s.best_le;
-      best_loop = s.best_loop;
-      listed = s.listed;
-    },
-    omega arith,
-    same_order order p,
-  )
-
   -- every root is passed
   pub all_judged : next ≡ N → Least g N order best
   all_judged e =
@@ -257,7 +231,7 @@ module _ {g : ℕ → Gate} {N : ℕ} {b : Search} {p : Scan} (s : Components g 
 pub start : (g : ℕ → Gate) (n : ℕ) (b : Search) → WellFormed (reads_in g) (signal_count n) → Sized (signal_count n) b
     → FlopsListed (8 * n) b.marks b.order
     → ((q y : ℕ) → q < 8 * n → Reads (reads_in g) (flop_signal q) y → ⊥)
-    → Components g (signal_count n) b (record { next = 0; depth = 0; len = 0; count = 0; done = 8 * n; best = signal_count n })
+    → Components g (signal_count n) b (first_scan n)
 start g n b bounded sized flops quiet =
     record {
       bounded = bounded;

@@ -9,10 +9,10 @@ use borrow.Author.Tests.{le-ltb, ne_eqb}
 use lib.Dec.{ltb, eqb, lit≤}
 use lib.ListN.{length, get_or}
 use Rattle.netlist.specs.declared.Source.{Source}
-use Rattle.netlist.specs.declared.Source.TheVariants.{Constant, Input, Signal as SignalSource}
+use Rattle.netlist.specs.declared.Source.TheVariants.{Constant, Input, Signal}
 use Rattle.netlist.specs.declared.Gate.{Gate}
 use Rattle.netlist.specs.declared.Gate.TheVariants.{Lut, ZeroOf, Select, Xor, Same, Stored}
-use Rattle.toposort.specs.declared.Read.TheVariants.{Signal, Nothing}
+use Rattle.std.specs.Prelude.{Some, None}
 use Rattle.netlist.specs.Rule.{sources_of, signals_in, reads_of}
 use Rattle.netlist.specs.Graph.{Reads}
 use Rattle.netlist.specs.Settle.{reads_in}
@@ -20,13 +20,13 @@ use Rattle.netlist.specs.Table.{row_length, source_of, select_head, stored_head,
 use Rattle.toposort.specs.Reading.{as_read, read_in, read_at, head_of, place_count, first_mark}
 
 -- a signal among sources has a place
-place_in : (ss : List Source) (y : ℕ) → Memᴰ y (signals_in ss) → (i : ℕ) × (i < length ss) × (read_in ss i ≡ Signal y)
+place_in : (ss : List Source) (y : ℕ) → Memᴰ y (signals_in ss) → (i : ℕ) × (i < length ss) × (read_in ss i ≡ Some y)
 unfolding signals_in as_read read_in
 place_in [] y m = elim m [ ]
 place_in (Constant b ∷ ss) y m = let w = place_in ss y m in (suc w.0, omega arith, w.2)
 place_in (Input j ∷ ss) y m = let w = place_in ss y m in (suc w.0, omega arith, w.2)
-place_in (SignalSource z ∷ ss) y (Memᴰ.head e) = (0, omega arith, ap Signal (sym e))
-place_in (SignalSource z ∷ ss) y (Memᴰ.tail m) = let w = place_in ss y m in (suc w.0, omega arith, w.2)
+place_in (Signal z ∷ ss) y (Memᴰ.head e) = (0, omega arith, ap Some (sym e))
+place_in (Signal z ∷ ss) y (Memᴰ.tail m) = let w = place_in ss y m in (suc w.0, omega arith, w.2)
 
 six : (gate : Gate) → length (sources_of gate) ≤ 6
 unfolding sources_of
@@ -38,34 +38,34 @@ six (Same a) = lit≤ tt
 six (Stored k) = lit≤ tt
 
 -- what is at a place is a signal among the sources
-in_place : (ss : List Source) (i y : ℕ) → read_in ss i ≡ Signal y → Memᴰ y (signals_in ss)
+in_place : (ss : List Source) (i y : ℕ) → read_in ss i ≡ Some y → Memᴰ y (signals_in ss)
 unfolding signals_in as_read read_in
-in_place [] i y e = let z : ◌≡◌ {A = ℕ} 0 1 = cc in absurd (omega arith)
-in_place (Constant b ∷ ss) zero y e = let z : ◌≡◌ {A = ℕ} 0 1 = cc in absurd (omega arith)
+in_place [] i y e = cc
+in_place (Constant b ∷ ss) zero y e = cc
 in_place (Constant b ∷ ss) (suc i) y e = in_place ss i y e
-in_place (Input j ∷ ss) zero y e = let z : ◌≡◌ {A = ℕ} 0 1 = cc in absurd (omega arith)
+in_place (Input j ∷ ss) zero y e = cc
 in_place (Input j ∷ ss) (suc i) y e = in_place ss i y e
-in_place (SignalSource z ∷ ss) zero y e = let q : y ≡ z = cc in Memᴰ.head q
-in_place (SignalSource z ∷ ss) (suc i) y e = Memᴰ.tail (in_place ss i y e)
+in_place (Signal z ∷ ss) zero y e = Memᴰ.head (cc)
+in_place (Signal z ∷ ss) (suc i) y e = Memᴰ.tail (in_place ss i y e)
 
 module _ (g : ℕ → Gate) (x : ℕ) where
   -- a signal reads what stands at one of its six places, and only that
-  pub place_of : (y : ℕ) → Reads (reads_in g) x y → (i : ℕ) × (i < 6) × (read_at g x i ≡ Signal y)
+  pub place_of : (y : ℕ) → Reads (reads_in g) x y → (i : ℕ) × (i < 6) × (read_at g x i ≡ Some y)
   unfolding reads_of
   place_of y r =
       let w = place_in (sources_of (g x)) y r in
       let back : 5 - (5 - w.0) ≡ w.0 = omega (arith, six (g x)) in
       (5 - w.0, omega arith, rw back w.2)
 
-  pub reads_of_lem : (i y : ℕ) → read_at g x i ≡ Signal y → Reads (reads_in g) x y
+  pub reads_of_lem : (i y : ℕ) → read_at g x i ≡ Some y → Reads (reads_in g) x y
   unfolding reads_of
   reads_of_lem i y e = in_place (sources_of (g x)) (5 - i) y e
 
   -- a place has one content
-  pub not_both : (i y : ℕ) → read_at g x i ≡ Nothing → read_at g x i ≡ Signal y → ⊥
-  not_both i y p q = let z : ◌≡◌ {A = ℕ} 0 1 = cc in omega arith
+  pub not_both : (i y : ℕ) → read_at g x i ≡ None → read_at g x i ≡ Some y → ⊥
+  not_both i y p q = cc
 
-  pub same_signal : (i y z : ℕ) → read_at g x i ≡ Signal y → read_at g x i ≡ Signal z → y ≡ z
+  pub same_signal : (i y z : ℕ) → read_at g x i ≡ Some y → read_at g x i ≡ Some z → y ≡ z
   same_signal i y z p q = cc
 
 -- the sources p 1 to p k
@@ -79,7 +79,7 @@ first_in zero p i h = absurd (not-suc-le-zero h)
 first_in (suc k) p zero h = refl
 first_in (suc k) p (suc i) h = first_in k (λ j. p (suc j)) i (le_of_suc-le-suc h)
 
-first_out : (k : ℕ) (p : ℕ → Source) (i : ℕ) → k ≤ i → read_in (first k p) i ≡ Nothing
+first_out : (k : ℕ) (p : ℕ → Source) (i : ℕ) → k ≤ i → read_in (first k p) i ≡ None
 unfolding first read_in
 first_out zero p i h = refl
 first_out (suc k) p zero h = absurd (not-suc-le-zero h)
@@ -129,7 +129,7 @@ module _ (table : List ℕ) (n x : ℕ) where
   counted_source k h = rw (first_sources n head source) (first_in (place_count n head) source k (rw places at h))
 
   -- and as nothing elsewhere
-  pub other_source : (k : ℕ) → place_count n head ≤ k → read_in (sources_of (gate_of table n x)) k ≡ Nothing
+  pub other_source : (k : ℕ) → place_count n head ≤ k → read_in (sources_of (gate_of table n x)) k ≡ None
   unfolding gate_of
   other_source k h = rw (first_sources n head source) (first_out (place_count n head) source k h)
 
@@ -147,7 +147,7 @@ places_most n head =
     by false false false false false = lit≤ tt
 
 -- nothing is read before the first mark
-pub none_before : (table : List ℕ) (n x i y : ℕ) → suc i < first_mark n (head_of table x) → read_at (gate_of table n) x i ≡ Signal y → ⊥
+pub none_before : (table : List ℕ) (n x i y : ℕ) → suc i < first_mark n (head_of table x) → read_at (gate_of table n) x i ≡ Some y → ⊥
 none_before table n x i y h r = not_both (gate_of table n) x i y (other_source table n x (5 - i) (omega arith)) r
 
 -- a flip-flop has no places

@@ -6,8 +6,8 @@ use mathlib.Core.List.{List, [], ◌∷◌}
 use native.Mathlib.Omega.{arith}
 use native.Mathlib.Nat.{le_of_suc-le-suc, not-suc-le-zero}
 use native.Mathlib.Decide.{ℕ_discrete}
-use lib.ListN.{length, get_or, set, take, replicate, length-set, length-replicate}
-use lib.Seq.{get_or-set_same, get_or-set_other, length-take-le}
+use lib.ListN.{length, get_or, set, length-set}
+use lib.Seq.{get_or-set_same, get_or-set_other}
 use lib.Dec.{eqb}
 use borrow.Author.Tests.{eq-eqb, ne_eqb}
 use Rattle.toposort.specs.Tally.{done_mark, one_if, tally, room}
@@ -92,25 +92,3 @@ unfolding room
 room_less [] i v h k e = absurd (not-suc-le-zero h)
 room_less (a ∷ l) zero v h k e = omega arith
 room_less (a ∷ l) (suc i) v h k e = omega (arith, room_less l i v (le_of_suc-le-suc h) k e)
-
--- ---- the first n of k zeros
-
-abbrev pub zeros : ℕ → List ℕ
-zeros k = replicate k 0
-
-replicate_zero : (k x : ℕ) → get_or (zeros k) x 0 ≡ 0
-replicate_zero zero x = refl
-replicate_zero (suc k) zero = refl
-replicate_zero (suc k) (suc x) = replicate_zero k x
-
-take_zero : (l : List ℕ) → ((x : ℕ) → get_or l x 0 ≡ 0) → (n x : ℕ) → get_or (take n l) x 0 ≡ 0
-take_zero l h zero x = refl
-take_zero [] h (suc n) x = refl
-take_zero (a ∷ l) h (suc n) zero = h zero
-take_zero (a ∷ l) h (suc n) (suc x) = take_zero l (λ y. h (suc y)) n x
-
-pub zeros_all : (k n x : ℕ) → get_or (take n (zeros k)) x 0 ≡ 0
-zeros_all k = take_zero (zeros k) (replicate_zero k)
-
-pub zeros_length : (k n : ℕ) → n ≤ k → length (take n (zeros k)) ≡ n
-zeros_length k n h = length-take-le n (zeros k) (rw length-replicate h)

@@ -1,7 +1,6 @@
 -- The invariant of the path-based search for strongly connected components, over its buffers b and where it stands, p.
-use Rattle.std.specs.Prelude.{ℕ, suc, ◌+◌, ◌*◌, ◌-◌, ◌≤◌, ◌<◌, ◌≡◌, ◌⊎◌, List, length, get_or}
+use Rattle.std.specs.Prelude.{ℕ, suc, ◌+◌, ◌*◌, ◌-◌, ◌≤◌, ◌<◌, ◌≡◌, ◌⊎◌, Some, List, length, get_or}
 use Rattle.netlist.specs.declared.Gate.{Gate}
-use Rattle.toposort.specs.declared.Read.TheVariants.{Signal}
 use Rattle.toposort.specs.declared.Scan.{Scan}
 use Rattle.toposort.specs.declared.Turn.{Turn}
 use Rattle.toposort.specs.declared.Turn.TheVariants.{Close, Leave, Raise, Open as OpenUnseen, Merge, Meet}
@@ -165,7 +164,7 @@ module _ (g : ℕ → Gate) (N : ℕ) (b : Search) (p : Scan) where
     pub pathed : Pathed b p
     -- a signal on the stack reaches those of its component and of later ones
     pub reach : (i j : ℕ) → i < len → j < len → Within b p i j → Reaches g (get_or stack i 0) (get_or stack j 0)
-    pub looked : (x i y : ℕ) → On b p x → suc i < get_or marks x 0 → i < 6 → read_at g x i ≡ Signal y → Passed b p x y
+    pub looked : (x i y : ℕ) → On b p x → suc i < get_or marks x 0 → i < 6 → read_at g x i ≡ Some y → Passed b p x y
     pub closed : (x y : ℕ) → Closed b p x → Reads (reads_in g) x y → Closed b p y
     pub judged : (x : ℕ) → Closed b p x → Loop (reads_in g) x → best ≤ x
     pub best_le : best ≤ N
@@ -177,13 +176,13 @@ module _ (g : ℕ → Gate) (N : ℕ) (b : Search) (p : Scan) where
   Wants top (Close at) = (get_or marks top 0 ≡ last_mark) × (at ≡ get_or pos top 0) × (get_or pos top 0 ≡ get_or heads (count - 1) 0)
   Wants top Leave = (get_or marks top 0 ≡ last_mark) × (get_or pos top 0 ≡ get_or heads (count - 1) 0 → ⊥)
   Wants top Raise =
-      (get_or marks top 0 ≡ last_mark → ⊥) × ((i y : ℕ) → suc i ≡ get_or marks top 0 → read_at g top i ≡ Signal y → Closed b p y)
+      (get_or marks top 0 ≡ last_mark → ⊥) × ((i y : ℕ) → suc i ≡ get_or marks top 0 → read_at g top i ≡ Some y → Closed b p y)
   Wants top (OpenUnseen y) = (y < N) × Reads (reads_in g) top y × (get_or marks y 0 ≡ 0)
   Wants top (Merge y) = Reads (reads_in g) top y × On b p y × (get_or pos y 0 < get_or heads (count - 1) 0)
   Wants top (Meet y) =
       Reads (reads_in g) top y × On b p y × (get_or heads (count - 1) 0 ≤ get_or pos y 0)
       × (get_or marks top 0 ≡ last_mark → ⊥)
-      × ((i z : ℕ) → suc i ≡ get_or marks top 0 → read_at g top i ≡ Signal z → z ≡ y)
+      × ((i z : ℕ) → suc i ≡ get_or marks top 0 → read_at g top i ≡ Some z → z ≡ y)
 
 -- what the search may still do
 abbrev pub remaining : ℕ → List ℕ → Scan → ℕ

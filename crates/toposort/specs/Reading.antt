@@ -1,28 +1,26 @@
 -- The six places at which the search looks for the signals that a signal reads.
-use Rattle.std.specs.Prelude.{cond, List, [], ◌∷◌, ℕ, zero, suc, ◌+◌, ◌-◌, ◌*◌, ◌<◌, eqb, ltb, length, get_or}
+use Rattle.std.specs.Prelude.{cond, Option, None, Some, List, [], ◌∷◌, ℕ, zero, suc, ◌+◌, ◌-◌, ◌*◌, ◌<◌, eqb, ltb, length, get_or}
 use Rattle.netlist.specs.declared.Source.{Source}
-use Rattle.netlist.specs.declared.Source.TheVariants.{Constant, Input, Signal as SignalSource}
+use Rattle.netlist.specs.declared.Source.TheVariants.{Constant, Input, Signal}
 use Rattle.netlist.specs.declared.Gate.{Gate}
-use Rattle.toposort.specs.declared.Read.{Read}
-use Rattle.toposort.specs.declared.Read.TheVariants.{Signal, Nothing}
 use Rattle.netlist.specs.Rule.{sources_of}
 use Rattle.netlist.specs.Table.{row_length, select_head}
 use Rattle.toposort.specs.Tally.{last_mark}
 
 -- "reading a pin is reading the signal that drives it, if any"
-unfoldable pub as_read : Source → Read
-as_read (Constant b) = Nothing
-as_read (Input j) = Nothing
-as_read (SignalSource y) = Signal y
+unfoldable pub as_read : Source → Option ℕ
+as_read (Constant b) = None
+as_read (Input j) = None
+as_read (Signal y) = Some y
 
 -- what is read at place i of some sources
-unfoldable pub read_in : List Source → ℕ → Read
-read_in [] i = Nothing
+unfoldable pub read_in : List Source → ℕ → Option ℕ
+read_in [] i = None
 read_in (s ∷ ss) zero = as_read s
 read_in (s ∷ ss) (suc i) = read_in ss i
 
 -- what signal x reads at place i of six, from its sixth source down to its first: the places that its gate doesn't have come first
-abbrev pub read_at : (ℕ → Gate) → ℕ → ℕ → Read
+abbrev pub read_at : (ℕ → Gate) → ℕ → ℕ → Option ℕ
 read_at g x i = read_in (sources_of (g x)) (5 - i)
 
 -- the gate of signal x has a source at place i

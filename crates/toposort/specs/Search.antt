@@ -1,8 +1,9 @@
 -- The buffers of the search, each with an entry a signal. A mark is as in `Tally`. Signals are put on `stack` as they are opened, at the
 -- place `pos` says; a component that is closed is cut off the end of the stack. `heads` has the places of the stack where its
 -- components begin, as far as they are known, `path` has the open signals, and `order` the done ones.
-use Rattle.std.specs.Prelude.{List, [], ℕ, ◌+◌, ◌-◌}
-use Rattle.lent.specs.Lent.{Held, Seen, Lent, Shown, left, shown}
+use Rattle.std.specs.Prelude.{List, ℕ, ◌+◌, ◌-◌, ◌*◌, get_or, set}
+use Rattle.netlist.specs.Table.{signal_count}
+use Rattle.toposort.specs.Tally.{done_mark}
 use Rattle.toposort.specs.declared.Scan.{Scan}
 
 pub record Search : Type 0 where
@@ -18,19 +19,21 @@ abbrev pub search_of : List ℕ → List ℕ → List ℕ → List ℕ → List 
 search_of marks pos stack heads path order =
     record { marks = marks; pos = pos; stack = stack; heads = heads; path = path; order = order }
 
--- the buffers that a function holds when it is called, and as it leaves them
-abbrev pub search_in : Held → Held → Held → Held → Held → Held → Search
-search_in marks pos stack heads path order = search_of marks.now pos.now stack.now heads.now path.now order.now
+-- a mark is set
+abbrev pub marked : Search → ℕ → ℕ → Search
+marked b x v = search_of (set b.marks x v) b.pos b.stack b.heads b.path b.order
 
-abbrev pub search_out : Lent → Lent → Lent → Lent → Lent → Lent → Search
-search_out marks pos stack heads path order = search_of (left marks) (left pos) (left stack) (left heads) (left path) (left order)
+-- the mark of the top rises
+abbrev pub raised : Search → ℕ → Search
+raised b top = marked b top (get_or b.marks top 0 + 1)
 
--- the same of a function that holds no path and no order, and leaves what it holds as it was
-abbrev pub stack_in : Seen → Seen → Seen → Seen → Search
-stack_in marks pos stack heads = search_of marks.now pos.now stack.now heads.now [] []
+-- the top is done
+abbrev pub finished : Search → Scan → ℕ → Search
+finished b p top = search_of (set b.marks top done_mark) b.pos b.stack b.heads b.path (set b.order p.done top)
 
-abbrev pub stack_was : Shown → Shown → Shown → Shown → Search
-stack_was marks pos stack heads = search_of (shown marks) (shown pos) (shown stack) (shown heads) [] []
+-- where a search of n slices starts, with their flip-flops done
+abbrev pub first_scan : ℕ → Scan
+first_scan n = record { next = 0; depth = 0; len = 0; count = 0; done = 8 * n; best = signal_count n }
 
 -- a search that goes on with another smallest signal known to be on a loop
 abbrev pub with_best : Scan → ℕ → Scan

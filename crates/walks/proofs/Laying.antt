@@ -90,9 +90,6 @@ laid_values {n} {m} {values} {old} {new} w size bits p = (
 pub still_same : {n m : ℕ} {wires : List ℕ} → IsWires n m wires → StillWires n m wires wires
 still_same w = record { wires = w; inputs = refl }
 
-pub flops_none : {n m : ℕ} {wires : List ℕ} (flops : List ℕ) → IsWires n m wires → FlopsOn n m flops 0 wires wires
-flops_none flops w = record { still = still_same w; bits = λ q h. absurd (omega arith) }
-
 -- the bits are on the wires as they are now
 pub flops_now : {n m : ℕ} {flops : List ℕ} {s : ℕ} {old new : List ℕ} → FlopsOn n m flops s old new → FlopsOn n m flops s new new
 flops_now on = record { still = still_same on.still.wires; bits = on.bits }

@@ -20,7 +20,7 @@ use Rattle.netlist.proofs.Zeros.{zeros_at}
 use Rattle.walks.specs.Marked.{source_reached, table_marked, touches_marked, gate_reached}
 
 -- an "or" of what its two tests say
-pub or_both : {a b a' b' : Bool} → a ≡ a' → b ≡ b' → (a || b) ≡ (a' || b')
+or_both : {a b a' b' : Bool} → a ≡ a' → b ≡ b' → (a || b) ≡ (a' || b')
 or_both ea eb = ap₂ (λ (x y : Bool). x || y) ea eb
 
 or_middle : (a b c : Bool) → (a || (b || c)) ≡ (b || (a || c))

@@ -1,6 +1,6 @@
 -- Whether a change reaches a signal's gate, by the head of its row in the gate table. Assumes nothing.
 use mathlib.Core.Path.{◌≡◌, ◌∙◌}
-use mathlib.Core.Bool.{Bool, false, ◌||◌, or-false}
+use mathlib.Core.Bool.{Bool, false, ◌||◌, or_assoc, or-false}
 use mathlib.Core.List.{List}
 use Prim.Native.Nat.{ℕ, suc, ◌+◌, ◌-◌, ◌*◌, ◌≤◌, ◌<◌}
 use native.Mathlib.Omega.{arith}
@@ -13,14 +13,14 @@ use Rattle.netlist.specs.declared.Source.{Source}
 use Rattle.walks.specs.Marked.{source_reached, any_reached, table_marked, gate_reached}
 use Rattle.walks.proofs.Reached.{reached_by_sources}
 
--- one more number, before those that are looked at
-pub any_more : (n : ℕ) (f : Source → Bool) (numbers : List ℕ) (i j k : ℕ) → 0 < j → j ≤ k
-    → any_reached n f numbers (i + (j - 1)) (k - (j - 1)) ≡ (f (source_of n (get_or numbers (i + (j - 1)) 0)) || any_reached n f numbers (i + j) (k - j))
+-- one more number, before those that are left
+pub any_more : (n : ℕ) (f : Source → Bool) (numbers : List ℕ) (i j k : ℕ) (found : Bool) {now : Bool} → j < k → now ≡ f (source_of n (get_or numbers (i + j) 0))
+    → ((found || now) || any_reached n f numbers (i + (j + 1)) (k - (j + 1))) ≡ (found || any_reached n f numbers (i + j) (k - j))
 unfolding any_reached
-any_more n f numbers i j k more fits =
-    let one : k - (j - 1) ≡ suc (k - j) = omega arith in
-    let place : suc (i + (j - 1)) ≡ i + j = omega arith in
-    rw (one, place)
+any_more n f numbers i j k found h e =
+    let one : k - j ≡ suc (k - (j + 1)) = omega arith in
+    let place : suc (i + j) ≡ i + (j + 1) = omega arith in
+    rw (one, place, e) (or_assoc found _ _)
 
 module _ (changed edited marks table : List ℕ) (n x : ℕ) where
   abbrev head : ℕ

@@ -2,8 +2,8 @@
 // table is read off them last.
 #![tactic(auto)]
 
-ghost use Rattle.std.specs.Prelude.{◌≡◌, ◌+◌, ◌*◌, ◌-◌, ◌≤◌, ◌<◌, length};
-ghost use Rattle.lent.specs.Put.{Put, PutAll};
+ghost use Rattle.std.specs.Prelude.{◌≡◌, ◌+◌, ◌*◌, ◌≤◌, ◌<◌, length};
+ghost use Rattle.lent.specs.Put.{Put};
 ghost use Rattle.netlist.specs.Rule.{bit_at};
 ghost use Rattle.netlist.specs.Settle.{is_marked};
 ghost use Rattle.netlist.specs.Table.{row_length, signal_limit, signal_count, input_room, input_wire, wire_count, source_of, IsTable, gate_of};
@@ -14,18 +14,6 @@ ghost use Rattle.walks.specs.Walks.{Walkable, StillWires, FlopsOn, SettledOn, Se
 
 use netlist::{FIRST_FLOP, ROW, SIGNAL_LIMIT, SIGNAL_WIRE, SLICE_SIGNALS, WIRE_LIMIT};
 
-// Copies bytes to a place.
-fn copy_to(to: &mut [u8], at: usize, from: &[u8])
-    requires { at + length from.now ≤ length to.old }
-    ensures { PutAll from.now at to.old to.new }
-{
-    let mut i = 0;
-    while i < from.len() {
-        to[at + i] = from[i];
-        i += 1;
-    }
-}
-
 // Lays the two constants and the outside inputs on the wires of n slices.
 fn lay_inputs(n: usize, inputs: &[u8], wires: &mut [u8])
     requires n_bound { (signal_count n ≤ signal_limit) × (length wires.old ≡ wire_count n (length inputs.now)) }
@@ -34,7 +22,7 @@ fn lay_inputs(n: usize, inputs: &[u8], wires: &mut [u8])
 {
     wires[0] = 0;
     wires[1] = 1;
-    copy_to(wires, SIGNAL_WIRE + SLICE_SIGNALS * n, inputs);
+    wires[SIGNAL_WIRE + SLICE_SIGNALS * n..].copy_from_slice(inputs);
 }
 
 // Lays a value table on wires.
@@ -42,7 +30,7 @@ fn lay_values(n: usize, m: usize, values: &[u8], wires: &mut [u8])
     requires { (signal_count n ≤ signal_limit) × (length values.now ≡ signal_count n) × Bits values.now × IsWires n m wires.old }
     ensures { StillWires n m wires.old wires.new × (values_on n wires.new ≡ values.now) }
 {
-    copy_to(wires, SIGNAL_WIRE, values);
+    wires[SIGNAL_WIRE..SIGNAL_WIRE + values.len()].copy_from_slice(values);
 }
 
 // Reads the value table off the wires.
@@ -50,8 +38,7 @@ fn read_values(n: usize, wires: &[u8], values: &mut [u8])
     requires { (signal_count n ≤ signal_limit) × (input_wire n ≤ length wires.now) × (length values.old ≡ signal_count n) }
     ensures { values.new ≡ values_on n wires.now }
 {
-    let end = SIGNAL_WIRE + SLICE_SIGNALS * n;
-    copy_to(values, 0, &wires[SIGNAL_WIRE..end]);
+    values.copy_from_slice(&wires[SIGNAL_WIRE..SIGNAL_WIRE + SLICE_SIGNALS * n]);
 }
 
 // Puts the eight bits of a byte on wires, from a place on.
@@ -59,10 +46,8 @@ fn spread_byte(wires: &mut [u8], at: usize, byte: u8)
     requires { at + 8 ≤ length wires.old }
     ensures { Put (bit_at byte) at 8 wires.old wires.new }
 {
-    let mut b: usize = 0;
-    while b < 8 {
+    for b in 0..8 {
         wires[at + b] = (byte >> b) % 2;
-        b += 1;
     }
 }
 
@@ -71,14 +56,8 @@ fn spread_flops(flops: &[u8], n: usize, m: usize, wires: &mut [u8])
     requires { (signal_count n ≤ signal_limit) × (length flops.now ≡ n) × IsWires n m wires.old }
     ensures { FlopsOn n m flops.now n wires.old wires.new }
 {
-    let mut s = 0;
-    while s < n {
-        spread_byte(
-            wires,
-            SIGNAL_WIRE + SLICE_SIGNALS * s + FIRST_FLOP,
-            flops[s],
-        );
-        s += 1;
+    for (s, &byte) in flops.iter().enumerate() {
+        spread_byte(wires, SIGNAL_WIRE + SLICE_SIGNALS * s + FIRST_FLOP, byte);
     }
 }
 
@@ -96,12 +75,10 @@ fn settle_wires(
     ensures { SettledOn n m table.now contents.now flops.now wires.old wires.new }
 {
     spread_flops(flops, n, m, wires);
-    let mut i = 8 * n;
-    while i < order.len() {
-        let x = order[i] as usize;
+    for &signal in &order[8 * n..] {
+        let x = usize::from(signal);
         let value = evaluation::gate_value(table, n, x, contents, wires);
         wires[SIGNAL_WIRE + x] = value;
-        i += 1;
     }
 }
 
@@ -130,14 +107,7 @@ pub fn settle_by(
 fn is_marked(marks: &[u8], x: usize) -> bool
     ensures { result ≡ is_marked marks.now x }
 {
-    if x < marks.len() { 0 < marks[x] } else { false }
-}
-
-// How far a wire is past the first of a kind, 0 where it comes before it.
-fn past(wire: usize, first: usize) -> usize
-    ensures { result ≡ wire - first }
-{
-    if wire < first { 0 } else { wire - first }
+    marks.get(x).is_some_and(|&mark| 0 < mark)
 }
 
 // Whether the source of a number is a marked input or a marked signal. Both marks are read before their tests count, so that it takes no branch.
@@ -146,10 +116,10 @@ fn number_reached(n: usize, number: u16, changed: &[u8], marks: &[u8]) -> bool
     requires number_bound { number < wire_count n input_room }
     ensures { result ≡ source_reached changed.now marks.now (source_of n number) }
 {
-    let wire = number as usize;
+    let wire = usize::from(number);
     let first_input = SIGNAL_WIRE + SLICE_SIGNALS * n;
-    let mark = marks[past(wire, SIGNAL_WIRE) % SIGNAL_LIMIT];
-    let change = changed[past(wire, first_input)];
+    let mark = marks[wire.saturating_sub(SIGNAL_WIRE) % SIGNAL_LIMIT];
+    let change = changed[wire.saturating_sub(first_input)];
     let read = (SIGNAL_WIRE <= wire) & (wire < first_input) & (0 < mark);
     let driven = (first_input <= wire) & (0 < change);
     read | driven
@@ -162,10 +132,8 @@ fn any_reached(n: usize, numbers: &[u16], i: usize, k: usize, changed: &[u8], ma
     ensures { result ≡ any_reached n (source_reached changed.now marks.now) numbers.now i k }
 {
     let mut found = false;
-    let mut j = k;
-    while 0 < j {
-        j -= 1;
-        found = number_reached(n, numbers[i + j], changed, marks) | found;
+    for &number in &numbers[i..i + k] {
+        found |= number_reached(n, number, changed, marks);
     }
     found
 }
@@ -184,7 +152,7 @@ fn gate_reached(
     ensures { result ≡ gate_reached changed.now edited.now marks.now (gate_of table.now n x) }
 {
     let at = ROW * x;
-    let head = table[at] as usize;
+    let head = usize::from(table[at]);
     if head < 4 * n {
         let contents = is_marked(edited, head);
         return any_reached(n, table, at + 1, 6, changed, marks) | contents;
@@ -219,9 +187,8 @@ fn edit_wires(
     ensures { EditedOn n m table.now contents.now changed.now edited.now wires.old wires.new }
 {
     let mut marks = [0u8; SIGNAL_LIMIT];
-    let mut i = 8 * n;
-    while i < order.len() {
-        let x = order[i] as usize;
+    for &signal in &order[8 * n..] {
+        let x = usize::from(signal);
         if gate_reached(table, n, x, changed, edited, &marks) {
             let fresh = evaluation::gate_value(table, n, x, contents, wires);
             marks[x] = 1;
@@ -229,7 +196,6 @@ fn edit_wires(
         } else {
             marks[x] = 0;
         }
-        i += 1;
     }
 }
 

@@ -1,8 +1,6 @@
 -- `calls::fill_flops` meets its contract. The loop's invariant: the bytes before s are filled. Assumes nothing.
-use mathlib.Core.Path.{◌≡◌}
 use mathlib.Core.List.{List}
-use Prim.Native.Nat.{ℕ, ◌≤◌, ◌-◌}
-use lib.ListN.{length}
+use Prim.Native.Nat.{ℕ}
 use Rattle.slicefile.specs.Format.{power_up_bits}
 use Rattle.column.specs.File.{slice_body}
 use Rattle.slicefile.proofs.Filling.{Filled}
@@ -13,7 +11,4 @@ abbrev pub bits : List ℕ → ℕ → ℕ
 bits file s = power_up_bits (slice_body file s)
 
 abbrev pub invariant-loop-s : goal.invariant-loop-s
-invariant-loop-s l = (l.s ≤ l.n) × (length l.flops ≡ l.n) × Filled (bits l.file) l.s l.flops
-
-abbrev pub decreases-loop-s : goal.decreases-loop-s
-decreases-loop-s l = l.n - l.s
+invariant-loop-s l = Filled (bits l.file) l.s l.flops

@@ -1,26 +1,33 @@
 -- `clockruns::row_planned` meets its contract. Assumes nothing.
-use mathlib.Core.Path.{◌∙◌, refl, sym}
+use mathlib.Core.Path.{◌≡◌, ◌∙◌, refl, sym}
+use borrow.Author.Rules.{rules}
+use Rattle.std.specs.Prelude.{Ok}
+use Rattle.std.proofs.lemmas.Result.{err_from_is_err_and}
 use Rattle.buffers.proofs.Passed.{settle_passed}
-use Rattle.calls.specs.Calls.{carried_out}
-use Rattle.calls.proofs.Calls.{turned_by}
+use Rattle.calls.specs.Calls.{turned_down, carried_out}
+use Rattle.calls.proofs.Calls.{told}
 use Rattle.clockruns.proofs.row_planned.Goals as goal
 
-pub returns-then-number-ne0 : goal.returns-then-number-ne0
-returns-then-number-ne0 c =
-    turned_by _ (rw (c.edges-edges.ensures, c.clock_count-k.ensures) at c.settle_refusal-number.ensures) c.if-number-ne0.true (refl, refl)
+pub returns-in_err-map_err : goal.returns-in_err-map_err
+returns-in_err-map_err c =
+    let t = told c.settle_refusal-tested.result c.map_err.result c.map_err.ensures.cases (λ r d p. search rules) c.in_err-map_err.was in
+    let p = err_from_is_err_and c.from_residual.result c.from_residual.ensures.1 in
+    rw (p.1, p.2, t.2) (turned_down (sym (rw (c.edges-edges.ensures, c.clock_count-k.ensures) at c.settle_refusal-tested.ensures) ∙ t.1) (refl, refl))
 
 pub run_clocks-requires : goal.run_clocks-requires
 run_clocks-requires c =
-    let e = rw c.edges-edges.ensures at c.settle_refusal-number.ensures in
-    let p = settle_passed _ _ _ _ _ _ (sym e ∙ c.if-number-ne0.false) in
+    let e = rw c.edges-edges.ensures at c.settle_refusal-tested.ensures in
+    let none : c.settle_refusal-tested.result ≡ Ok tt = search rules in
+    let p = settle_passed _ _ _ _ _ _ (sym e ∙ none) in
     let l = p.0 in
     record {
-      runnable = c.requires;
+      wires_len = c.requires;
       contents_len = (l.contents, l.flops, l.values);
       inputs_len = (l.inputs, p.1);
     }
 
 pub returns : goal.returns
 returns c =
-    let e = rw (c.edges-edges.ensures, c.clock_count-k.ensures) at c.settle_refusal-number.ensures in
-    carried_out (sym e ∙ c.if-number-ne0.false) (rw c.clock_count-k.ensures at c.run_clocks.ensures)
+    let e = rw (c.edges-edges.ensures, c.clock_count-k.ensures) at c.settle_refusal-tested.ensures in
+    let none : c.settle_refusal-tested.result ≡ Ok tt = search rules in
+    carried_out (sym e ∙ none) (rw c.clock_count-k.ensures at c.run_clocks.ensures)

@@ -4,4 +4,4 @@ use Rattle.column.proofs.CheckLaws.{from_start}
 use Rattle.column.proofs.check_file.Goals as goal
 
 pub returns : goal.returns
-returns c = c.check_from-progress.ensures.0 ∙ from_start _
+returns c = c.check_from.ensures.0 ∙ from_start _

@@ -1,10 +1,10 @@
 -- `column::load` meets its contract. Assumes nothing.
-use mathlib.Core.Path.{◌∙◌, sym}
+use mathlib.Core.Path.{sym}
+use Rattle.std.proofs.lemmas.Result.{err_from_is_err_and}
 use Rattle.column.specs.Judge.{bad}
 use Rattle.column.proofs.load.Goals as goal
 
-pub load_sound-requires : goal.load_sound-requires
-load_sound-requires c = record { sound = sym c.check_file.ensures ∙ c.in-Sound.is; table_len = c.requires }
-
-pub returns-in-Bad : goal.returns-in-Bad
-returns-in-Bad c = bad (sym c.check_file.ensures ∙ c.in-Bad.is)
+pub returns-in_err-n : goal.returns-in_err-n
+returns-in_err-n c =
+    let p = err_from_is_err_and c.from_residual.result c.from_residual.ensures.1 in
+    rw (p.1, p.2) (bad (sym c.in_err-n.ensures))

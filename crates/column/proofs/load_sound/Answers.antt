@@ -45,19 +45,19 @@ slice_bounds-compile-end-3 c = omega (arith, few _ c.requires.sound)
 pub slice_bounds-compile-end-4 : goal.slice_bounds-compile-end-4
 slice_bounds-compile-end-4 c = sym (signals _ (few _ c.requires.sound) c.requires.table_len.1)
 
-pub compile-requires : goal.compile-requires
-compile-requires c =
+pub compile-requires-clause-table_len : goal.compile-requires-clause-table_len
+compile-requires-clause-table_len c =
     let l = few _ c.requires.sound in
-    record { sound = c.requires.sound; table_len = (numbers _ l c.requires.table_len.0, signals _ l c.requires.table_len.1) }
+    (numbers _ l c.requires.table_len.0, signals _ l c.requires.table_len.1)
 
-pub returns-in-Loop : goal.returns-in-Loop
-returns-in-Loop c =
-    let w = subst (OrderOrLoop (gate_at c.args.file.now) c.args.n c.compile.new.order) c.in-Loop.is c.compile.ensures.sorted in
-    loop c.requires.sound w.0 w.1 w.2
+pub returns-in-Err : goal.returns-in-Err
+returns-in-Err c =
+    let w = subst (OrderOrLoop (gate_at c.args.file.now) c.args.n c.compile.new.order) c.in-Err.is c.compile.ensures.sorted in
+    rw c.at.ensures (loop c.requires.sound w.0 w.1 w.2)
 
-pub returns-in-Done : goal.returns-in-Done
-returns-in-Done c =
-    let o = subst (OrderOrLoop (gate_at c.args.file.now) c.args.n c.compile.new.order) c.in-Done.is c.compile.ensures.sorted in
+pub returns-in-Ok : goal.returns-in-Ok
+returns-in-Ok c =
+    let o = subst (OrderOrLoop (gate_at c.args.file.now) c.args.n c.compile.new.order) c.in-Ok.is c.compile.ensures.sorted in
     let file = c.args.file.now in
     let table = c.compile.new.table in
     let order = c.compile.new.order in

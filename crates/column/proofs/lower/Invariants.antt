@@ -1,13 +1,10 @@
 -- `column::lower` meets its contract. The loop's invariant: the signals of the slices before s have their rows in the table. Assumes nothing.
 use mathlib.Core.Path.{◌≡◌}
-use Prim.Native.Nat.{◌*◌, ◌-◌, ◌≤◌}
+use Prim.Native.Nat.{◌*◌}
 use lib.ListN.{length}
 use Rattle.netlist.specs.Table.{slice_signals, table_length}
 use Rattle.column.specs.Compile.{LoweredTo}
 use Rattle.column.proofs.lower.Given as goal
 
 abbrev pub invariant-loop-s : goal.invariant-loop-s
-invariant-loop-s l = (l.s ≤ l.n) × (length l.table ≡ table_length l.n) × LoweredTo l.file l.n l.table (slice_signals * l.s)
-
-abbrev pub decreases-loop-s : goal.decreases-loop-s
-decreases-loop-s l = l.n - l.s
+invariant-loop-s l = (length l.table ≡ table_length l.n) × LoweredTo l.file l.n l.table (slice_signals * l.s)

@@ -2,7 +2,6 @@ use mathlib.Core.Path.{◌≡◌, ◌∙◌, sym, ap}
 use mathlib.Core.List.{List}
 use Prim.Native.Nat.{ℕ, ◌<◌, ◌+◌, ◌*◌}
 use native.Mathlib.Omega.{arith}
-use borrow.Author.Rules.{rules}
 use lib.ListN.{length}
 use Rattle.netlist.specs.Table.{slice_signals}
 use Rattle.slicefile.specs.Format.{HoldsSlice}
@@ -14,20 +13,15 @@ use Rattle.column.proofs.lower_slice.Goals as goal
 held : {file body : List ℕ} {n m s : ℕ} → SoundFile file n m → s < n → body ≡ slice_body file s → HoldsSlice body
 held f l e = omega (arith, ap length e, body_length_lem _ f _ l)
 
-pub pin_numbers-pins-requires : goal.pin_numbers-pins-requires
-pin_numbers-pins-requires c =
+pub invariant_of-slice : goal.invariant_of-slice
+invariant_of-slice c =
     let f = sound_file c.args.file.now c.requires.sound.0 in
-    (held f c.requires.sound.1 c.slice_body-body.ensures, omega (arith, f.slices_fit), f.inputs_fit)
+    record { holds = held f c.requires.sound.1 c.slice_body-body.ensures; few = omega (arith, f.slices_fit) }
 
 pub loop-k-init : goal.loop-k-init
 loop-k-init c =
     let e : slice_signals * c.args.s + 0 ≡ slice_signals * c.args.s = omega arith in
-    (search rules, c.requires.sound.2, rw e c.requires.lowered_to)
-
-pub row_at-row-requires : goal.row_at-row-requires
-row_at-row-requires c =
-    let f = sound_file c.args.file.now c.requires.sound.0 in
-    ((held f c.requires.sound.1 c.slice_body-body.ensures, omega (arith, f.slices_fit), c.requires.sound.1, c.pin_numbers-pins.ensures), omega arith)
+    (c.requires.sound.2, rw e c.requires.lowered_to)
 
 pub overflow_mul-s : goal.overflow_mul-s
 overflow_mul-s c = omega (arith, (sound_file c.args.file.now c.requires.sound.0).slices_fit)
@@ -42,10 +36,10 @@ loop-k-preserved c =
     let f = sound_file a.file.now c.requires.sound.0 in
     let x = slice_signals * a.s + l.k in
     let e = rw (c.row_at-row.ensures, c.slice_body-body.ensures, ← gate_of_slice a.file.now f a.s l.k (omega arith)) at c.put_row.ensures in
-    (omega arith, c.put_row.auto.table ∙ l.invariant.1, λ y i h j. rw e (lower_next a.file.now f l.table x (omega arith) l.invariant.1 l.invariant.2 y i (omega arith) j))
+    (c.put_row.auto.table ∙ l.invariant.0, λ y i h j. rw e (lower_next a.file.now f l.table x (omega arith) l.invariant.0 l.invariant.1 y i (omega arith) j))
 
 pub shape_of-table : goal.shape_of-table
-shape_of-table c = c.loop-k.invariant.1 ∙ sym c.requires.sound.2
+shape_of-table c = c.loop-k.invariant.0 ∙ sym c.requires.sound.2
 
 pub returns : goal.returns
-returns c x i h j = c.loop-k.invariant.2 x i (omega arith) j
+returns c x i h j = c.loop-k.invariant.1 x i (omega arith) j

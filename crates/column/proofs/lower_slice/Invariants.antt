@@ -1,13 +1,10 @@
 -- `column::lower_slice` meets its contract. The loop's invariant: the signals before signal k of the slice have their rows in the table. Assumes nothing.
 use mathlib.Core.Path.{◌≡◌}
-use Prim.Native.Nat.{◌+◌, ◌*◌, ◌-◌, ◌≤◌}
+use Prim.Native.Nat.{◌+◌, ◌*◌}
 use lib.ListN.{length}
 use Rattle.netlist.specs.Table.{slice_signals, table_length}
 use Rattle.column.specs.Compile.{LoweredTo}
 use Rattle.column.proofs.lower_slice.Given as goal
 
 abbrev pub invariant-loop-k : goal.invariant-loop-k
-invariant-loop-k l = (l.k ≤ slice_signals) × (length l.table ≡ table_length l.n) × LoweredTo l.file l.n l.table (slice_signals * l.s + l.k)
-
-abbrev pub decreases-loop-k : goal.decreases-loop-k
-decreases-loop-k l = slice_signals - l.k
+invariant-loop-k l = (length l.table ≡ table_length l.n) × LoweredTo l.file l.n l.table (slice_signals * l.s + l.k)

@@ -1,13 +1,12 @@
 -- `evaluation::gate_value` meets its contract, test by test of the head. Assumes nothing.
-use mathlib.Core.Path.{◌≡◌, ◌∙◌, sym, ap, ap₂}
+use mathlib.Core.Path.{◌≡◌, sym}
 use mathlib.Core.List.{List}
-use Prim.Native.Nat.{ℕ, ◌+◌, ◌*◌, ◌-◌, ◌%◌, ◌<◌}
+use Prim.Native.Nat.{ℕ, ◌+◌, ◌*◌, ◌-◌, ◌<◌}
 use native.Mathlib.Omega.{arith}
 use lib.ListN.{length, get_or}
-use Rattle.netlist.specs.Rule.{bit_at}
 use Rattle.netlist.specs.Table.{row_length}
 use Rattle.evaluation.specs.Numbers.{AreWires}
-use Rattle.evaluation.proofs.Gates.{rule_lut, rule_zero, rule_select, rule_xor, rule_same, choose_by}
+use Rattle.evaluation.proofs.Gates.{rule_lut, rule_zero, rule_select, rule_xor, rule_same}
 use Rattle.evaluation.proofs.gate_value.Goals as goal
 
 -- a source of the row is a wire
@@ -19,8 +18,8 @@ is_wire wires table x i h a b =
 pub returns-then-head-n : goal.returns-then-head-n
 returns-then-head-n c flops =
     let a = c.args in
-    c.contents_bit.ensures ∙ ap (bit_at (get_or a.contents.now (get_or a.table.now (row_length * a.x) 0) 0)) c.number_on-k.ensures.0
-    ∙ sym (rule_lut a.contents.now flops a.wires.now a.table.now a.n a.x c.if-head-n.true)
+    rw (c.contents_bit.ensures, c.from-head.ensures, c.number_on-k.ensures.0)
+    (sym (rule_lut a.contents.now flops a.wires.now a.table.now a.n a.x (omega arith)))
 
 pub wire-first-requires : goal.wire-first-requires
 wire-first-requires c = (is_wire _ _ _ 1 c.requires.are_wires.0 (omega arith) (omega arith), c.requires.are_wires.1)
@@ -34,23 +33,22 @@ wire-third-requires c = (is_wire _ _ _ 3 c.requires.are_wires.0 (omega arith) (o
 pub returns-then-head-n-2 : goal.returns-then-head-n-2
 returns-then-head-n-2 c flops =
     let a = c.args in
-    sym (rule_zero a.contents.now flops a.wires.now a.table.now a.n a.x c.if-head-n.false c.if-head-n-2.true)
+    sym (rule_zero a.contents.now flops a.wires.now a.table.now a.n a.x (omega arith) (omega arith))
 
 pub returns-then-head-n-3 : goal.returns-then-head-n-3
 returns-then-head-n-3 c flops =
     let a = c.args in
-    c.choose-chosen.ensures
-    ∙ choose_by c.wire-first.ensures.0 c.wire-second.ensures.0 c.wire-third.ensures.0
-    ∙ sym (rule_select a.contents.now flops a.wires.now a.table.now a.n a.x c.if-head-n.false c.if-head-n-2.false c.if-head-n-3.true)
+    rw (c.choose-chosen.ensures, c.wire-first.ensures.0, c.wire-second.ensures.0, c.wire-third.ensures.0)
+    (sym (rule_select a.contents.now flops a.wires.now a.table.now a.n a.x (omega arith) (omega arith) (omega arith)))
 
 pub returns-then-head-n-4 : goal.returns-then-head-n-4
 returns-then-head-n-4 c flops =
     let a = c.args in
-    ap₂ (λ (u v : ℕ). (u + v) % 2) c.wire-first.ensures.0 c.wire-second.ensures.0
-    ∙ sym (rule_xor a.contents.now flops a.wires.now a.table.now a.n a.x c.if-head-n.false c.if-head-n-2.false c.if-head-n-3.false c.if-head-n-4.true)
+    rw (c.wire-first.ensures.0, c.wire-second.ensures.0)
+    (sym (rule_xor a.contents.now flops a.wires.now a.table.now a.n a.x (omega arith) (omega arith) (omega arith) (omega arith)))
 
 pub returns : goal.returns
 returns c flops =
     let a = c.args in
-    c.wire-first.ensures.0
-    ∙ sym (rule_same a.contents.now flops a.wires.now a.table.now a.n a.x c.if-head-n.false c.if-head-n-2.false c.if-head-n-3.false c.if-head-n-4.false c.requires.table.2)
+    rw c.wire-first.ensures.0
+    (sym (rule_same a.contents.now flops a.wires.now a.table.now a.n a.x (omega arith) (omega arith) (omega arith) (omega arith) c.requires.table.2))

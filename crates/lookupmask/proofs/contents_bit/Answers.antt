@@ -1,13 +1,13 @@
 -- `lookupmask::contents_bit` meets its contract. Assumes nothing.
-use Rattle.netlist.proofs.Bits.{past_end}
-use Rattle.lookupmask.proofs.Masks.{clear, set}
+use mathlib.Core.Path.{◌≡◌, ◌∙◌, ap}
+use Prim.Native.Nat.{ℕ}
+use borrow.Author.Rules.{rules}
+use lib.ListN.{get_or}
+use Rattle.netlist.specs.Rule.{bit_at}
+use Rattle.lookupmask.proofs.Masks.{masked_bit}
 use Rattle.lookupmask.proofs.contents_bit.Goals as goal
 
-pub returns-then-contents-table-eq0 : goal.returns-then-contents-table-eq0
-returns-then-contents-table-eq0 c = clear _ _ c.requires c.if-contents-table-eq0.true
-
-pub returns-else-contents-table-eq0 : goal.returns-else-contents-table-eq0
-returns-else-contents-table-eq0 c = set _ _ c.requires c.if-contents-table-eq0.false
-
-pub returns-else-table-contents : goal.returns-else-table-contents
-returns-else-table-contents c = past_end c.args.contents.now _ c.args.k c.if-table-contents.false
+pub returns : goal.returns
+returns c =
+    let word : c.unwrap_or-word.result ≡ get_or c.args.contents.now c.args.table 0 = search rules in
+    c.from.ensures ∙ masked_bit c.unwrap_or-word.result c.args.k c.requires ∙ ap (λ (w : ℕ). bit_at w c.args.k) word

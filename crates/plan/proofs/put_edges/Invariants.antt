@@ -1,12 +1,9 @@
 -- `plan::put_edges` meets its contract. The loop's invariant: the numbers of the slices before s are put. Assumes nothing.
-use Prim.Native.Nat.{◌*◌, ◌-◌, ◌≤◌}
+use Prim.Native.Nat.{◌*◌}
 use Rattle.lent.specs.Put.{Put}
 use Rattle.clocknumbers.specs.Numbers.{edge_length}
 use Rattle.plan.specs.Plan.{edges_place, edges_of}
 use Rattle.plan.proofs.put_edges.Given as goal
 
 abbrev pub invariant-loop-s : goal.invariant-loop-s
-invariant-loop-s l = (l.s ≤ l.n) × Put (edges_of l.file l.n l.m) (edges_place l.n) (edge_length * l.s) l.initial.plan l.plan
-
-abbrev pub decreases-loop-s : goal.decreases-loop-s
-decreases-loop-s l = l.n - l.s
+invariant-loop-s l = Put (edges_of l.file l.n l.m) (edges_place l.n) (edge_length * l.s) l.initial.plan l.plan

@@ -2,19 +2,16 @@
 use mathlib.Core.Path.{◌≡◌}
 use mathlib.Core.Bool.{Bool}
 use mathlib.Core.List.{List}
-use Prim.Native.Nat.{ℕ, ◌≤◌, ◌-◌}
+use Prim.Native.Nat.{ℕ}
 use Rattle.slicefile.specs.Lists.{any_below}
-use Rattle.slicefile.specs.Format.{pin_count, pin_code}
+use Rattle.slicefile.specs.Format.{pin_code}
+use Rattle.std.specs.Prelude.{is_none}
 use Rattle.slicefile.specs.Driver.{driver_of}
-use Rattle.rules.specs.Rules.{missing}
 use Rattle.rules.proofs.bad_driver.Given as goal
 
 -- pin p has no driver
 abbrev pub undriven : ℕ → ℕ → List ℕ → ℕ → Bool
-undriven n m body p = missing (driver_of (pin_code body p) n m)
+undriven n m body p = is_none (driver_of (pin_code body p) n m)
 
 abbrev pub invariant-loop-p : goal.invariant-loop-p
-invariant-loop-p l = (l.p ≤ pin_count) × (l.found ≡ any_below l.p (undriven l.n l.m l.body))
-
-abbrev pub decreases-loop-p : goal.decreases-loop-p
-decreases-loop-p l = pin_count - l.p
+invariant-loop-p l = (l.found ≡ any_below l.p (undriven l.n l.m l.body))

@@ -1,42 +1,27 @@
 -- `simulator::clock` meets its contract: the judge's refusal is handed on, and the plan stands for the file. Assumes nothing.
 use mathlib.Core.Path.{refl, sym}
-use native.Mathlib.Omega.{arith}
-use Rattle.netlist.specs.Table.{wire_count, wire_limit}
-use Rattle.netlist.proofs.Zeros.{zeros_length, zeros_all}
+use Rattle.std.proofs.lemmas.Result.{err_from_is_err_and}
 use Rattle.column.specs.Clock.{state_of}
 use Rattle.plan.proofs.Plans.{ready_runs}
-use Rattle.calls.proofs.Calls.{handed_on, loaded_judged, loaded_ready}
-use Rattle.simulator.proofs.Planned.{clock_file}
+use Rattle.calls.specs.Calls.{judged}
+use Rattle.simulator.proofs.Planned.{wires_lent, clock_file}
 use Rattle.simulator.proofs.clock.Goals as goal
 
-pub returns-in_default : goal.returns-in_default
-returns-in_default c = handed_on _ _ c.in_default.is (loaded_judged _ _ _ c.load-v.ensures) c.refusal.ensures (refl, refl)
+pub returns-in_err-n : goal.returns-in_err-n
+returns-in_err-n c =
+    let p = err_from_is_err_and c.from_residual.result c.from_residual.ensures.1 in
+    rw (p.1, p.2) (judged c.in_err-n.ensures (refl, refl))
 
-pub overflow_mul-count : goal.overflow_mul-count
-overflow_mul-count c = let r = ready_runs _ (loaded_ready c.in-Accepted.is c.load-v.ensures) in omega (arith, r.few)
+pub invariant_of-plan : goal.invariant_of-plan
+invariant_of-plan c = record { runnable = ready_runs _ c.in_ok-n.ensures }
 
-pub overflow_add-count : goal.overflow_add-count
-overflow_add-count c = let r = ready_runs _ (loaded_ready c.in-Accepted.is c.load-v.ensures) in omega (arith, r.few)
-
-pub overflow_add-count-2 : goal.overflow_add-count-2
-overflow_add-count-2 c = let r = ready_runs _ (loaded_ready c.in-Accepted.is c.load-v.ensures) in omega (arith, r.few, r.narrow)
-
-pub slice_bounds-wires-end : goal.slice_bounds-wires-end
-slice_bounds-wires-end c = let r = ready_runs _ (loaded_ready c.in-Accepted.is c.load-v.ensures) in omega (arith, r.few, r.narrow)
-
-pub slice_bounds-clock_planned-end-2 : goal.slice_bounds-clock_planned-end-2
-slice_bounds-clock_planned-end-2 c =
-    let r = ready_runs _ (loaded_ready c.in-Accepted.is c.load-v.ensures) in
-    sym (zeros_length wire_limit (wire_count c.in-Accepted.n c.in-Accepted.m) (omega (arith, r.few, r.narrow)))
+pub slice_bounds-clock_planned-end : goal.slice_bounds-clock_planned-end
+slice_bounds-clock_planned-end c = sym (wires_lent (ready_runs _ c.in_ok-n.ensures)).0
 
 pub clock_planned-requires : goal.clock_planned-requires
-clock_planned-requires c =
-    let n = c.in-Accepted.n in
-    let m = c.in-Accepted.m in
-    let r = ready_runs _ (loaded_ready c.in-Accepted.is c.load-v.ensures) in
-    (r, zeros_length wire_limit (wire_count n m) (omega (arith, r.few, r.narrow)), λ i. rw (zeros_all wire_limit (wire_count n m) i) (omega arith))
+clock_planned-requires c = wires_lent (ready_runs _ c.in_ok-n.ensures)
 
 pub returns : goal.returns
 returns c =
     let a = c.args in
-    clock_file a.file.now (loaded_ready c.in-Accepted.is c.load-v.ensures) (state_of a.contents.now a.flops.now) a.inputs.now a.values.now _ _ c.clock_planned.ensures
+    clock_file a.file.now c.in_ok-n.ensures (state_of a.contents.now a.flops.now) a.inputs.now a.values.now _ _ c.clock_planned.ensures

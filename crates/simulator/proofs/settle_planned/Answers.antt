@@ -1,29 +1,34 @@
 -- `simulator::settle_planned` meets its contract. Assumes nothing.
-use mathlib.Core.Path.{◌∙◌, refl, sym, ap}
+use mathlib.Core.Path.{◌≡◌, ◌∙◌, refl, sym, ap}
+use borrow.Author.Rules.{rules}
+use Rattle.std.specs.Prelude.{Ok}
 use Rattle.netlist.specs.Table.{wire_count}
 use Rattle.buffers.proofs.Passed.{settle_passed}
-use Rattle.plan.proofs.Plans.{edges_long, parts_walk}
-use Rattle.calls.specs.Calls.{carried_out}
-use Rattle.calls.proofs.Calls.{turned_by}
+use Rattle.plan.proofs.Plans.{parts_walk}
+use Rattle.std.proofs.lemmas.Result.{err_from_is_err_and}
+use Rattle.calls.specs.Calls.{turned_down, carried_out}
+use Rattle.calls.proofs.Calls.{told}
 use Rattle.simulator.proofs.settle_planned.Goals as goal
 
-pub settle_refusal-number-requires : goal.settle_refusal-number-requires
-settle_refusal-number-requires c = (c.requires.0.few, edges_long c.requires.0 c.edges-edges.ensures)
-
-pub returns-then-number-ne0 : goal.returns-then-number-ne0
-returns-then-number-ne0 c = turned_by _ (rw c.edges-edges.ensures at c.settle_refusal-number.ensures) c.if-number-ne0.true refl
+pub returns-in_err-map_err : goal.returns-in_err-map_err
+returns-in_err-map_err c =
+    let t = told c.settle_refusal-tested.result c.map_err.result c.map_err.ensures.cases (λ r d p. search rules) c.in_err-map_err.was in
+    let p = err_from_is_err_and c.from_residual.result c.from_residual.ensures.1 in
+    rw (p.1, p.2, t.2) (turned_down (sym (rw c.edges-edges.ensures at c.settle_refusal-tested.ensures) ∙ t.1) refl)
 
 pub settle_by-requires : goal.settle_by-requires
 settle_by-requires c =
-    let e = rw c.edges-edges.ensures at c.settle_refusal-number.ensures in
-    let p = settle_passed _ _ _ _ _ _ (sym e ∙ c.if-number-ne0.false) in
+    let e = rw c.edges-edges.ensures at c.settle_refusal-tested.ensures in
+    let none : c.settle_refusal-tested.result ≡ Ok tt = search rules in
+    let p = settle_passed _ _ _ _ _ _ (sym e ∙ none) in
     let l = p.0 in
     record {
-      walkable = (parts_walk c.requires.0 c.table-table.ensures c.order-order.ensures l.inputs, l.flops, l.values);
-      wires_len = (c.requires.1 ∙ ap (wire_count c.args.n) (sym l.inputs), p.1, c.requires.2);
+      walkable = (parts_walk c.args.plan.now.runnable c.table-table.ensures c.order-order.ensures l.inputs, l.flops, l.values);
+      wires_len = (c.requires.0 ∙ ap (wire_count c.args.plan.now.n) (sym l.inputs), p.1, c.requires.1);
     }
 
 pub returns : goal.returns
 returns c =
-    let e = rw c.edges-edges.ensures at c.settle_refusal-number.ensures in
-    carried_out (sym e ∙ c.if-number-ne0.false) (rw c.table-table.ensures at c.settle_by.ensures.settled)
+    let e = rw c.edges-edges.ensures at c.settle_refusal-tested.ensures in
+    let none : c.settle_refusal-tested.result ≡ Ok tt = search rules in
+    carried_out (sym e ∙ none) (rw c.table-table.ensures at c.settle_by.ensures.settled)

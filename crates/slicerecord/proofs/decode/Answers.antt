@@ -7,15 +7,15 @@ pub returns : goal.returns
 unfolding record_of tabulate
 returns c =
     rw (
+      c.letter_bytes.ensures,
+      c.letter_bytes-2.ensures,
       c.contents_word.ensures,
       c.contents_word-2.ensures,
       c.contents_word-3.ensures,
       c.contents_word-4.ensures,
-      c.letter_bytes-modes.ensures,
-      c.letter_bytes-shifts.ensures,
-      c.letter_bytes-carries.ensures,
-      c.letter_bytes-muxes.ensures,
-      c.letter_bytes-mains.ensures,
-      c.letter_bytes-seconds.ensures,
-      c.pin_codes-pins.ensures,
+      c.letter_bytes-3.ensures,
+      c.letter_bytes-4.ensures,
+      c.letter_bytes-5.ensures,
+      c.letter_bytes-6.ensures,
+      c.pin_codes.ensures,
     )

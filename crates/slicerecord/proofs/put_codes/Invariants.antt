@@ -1,13 +1,9 @@
--- `slicerecord::put_codes` meets its contract. The loop's invariant: the bytes of the codes left to store, stored, give what is promised. Assumes nothing.
+-- `slicerecord::put_codes` meets its contract: the codes before i are stored. Assumes nothing.
 use mathlib.Core.Path.{◌≡◌}
-use Prim.Native.Nat.{◌≤◌, ◌+◌, ◌*◌, ◌-◌}
-use lib.ListN.{length, drop}
+use lib.ListN.{take}
 use lib.Seq.{sets}
 use Rattle.slicerecord.specs.Record.{all_bytes}
 use Rattle.slicerecord.proofs.put_codes.Given as goal
 
 abbrev pub invariant-loop-i : goal.invariant-loop-i
-invariant-loop-i l = (l.i ≤ length l.codes) × (length l.out ≡ length l.initial.out) × (sets l.out (l.at + 2 * l.i) (all_bytes 2 (drop l.i l.codes)) ≡ sets l.initial.out l.at (all_bytes 2 l.codes))
-
-abbrev pub decreases-loop-i : goal.decreases-loop-i
-decreases-loop-i l = length l.codes - l.i
+invariant-loop-i l = l.out ≡ sets l.initial.out l.at (all_bytes 2 (take l.i l.codes))

@@ -1,24 +1,15 @@
 -- `slicerecord::put_words` meets its contract, by the loop's invariant. Assumes nothing.
-use mathlib.Core.Path.{◌∙◌, ap}
-use native.Mathlib.Nat.{add-zero}
-use borrow.Author.Rules.{rules}
-use lib.ListN.{drop_of_length-le}
+use mathlib.Core.Path.{refl, ◌∙◌}
+use native.Mathlib.Omega.{arith}
 use Rattle.slicerecord.specs.Record.{all_bytes}
-use Rattle.slicerecord.proofs.Stores.{numbers_step, sets_done, drop_next}
+use Rattle.slicerecord.proofs.Digits.{word_bytes}
+use Rattle.slicerecord.proofs.Stores.{numbers_next}
 use Rattle.slicerecord.proofs.put_words.Goals as goal
 
 pub loop-i-init : goal.loop-i-init
-loop-i-init c = (search rules, search rules, simp add-zero)
+unfolding all_bytes
+loop-i-init c = refl
 
 pub loop-i-preserved : goal.loop-i-preserved
 loop-i-preserved c =
-    let now = c.loop-i in
-    let at = c.args in
-    let left = drop_next at.words.now now.i (search rules) in
-    (search rules, search rules, numbers_step now.out at.at now.i 8 _ left c.put_number.ensures ∙ now.invariant.2)
-
-pub returns : goal.returns
-unfolding all_bytes
-returns c =
-    let now = c.loop-i in
-    sets_done now.out _ _ (ap (all_bytes 8) (drop_of_length-le c.args.words.now c.loop-i-test.false)) now.invariant.2
+    numbers_next _ c.args.at 8 c.loop-i.i c.args.words.now (omega arith) (c.to_le_bytes.ensures ∙ word_bytes _) c.loop-i.invariant c.put_bytes.ensures

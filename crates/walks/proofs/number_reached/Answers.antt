@@ -4,5 +4,5 @@ use Rattle.walks.proofs.number_reached.Goals as goal
 
 pub returns : goal.returns
 returns c =
-    let b = c in
-    rw (c.past.ensures, c.past-2.ensures) (number_tests b.args.n b.args.changed.now b.args.marks.now b.args.number b.requires.n_bound.0)
+    rw (c.saturating_sub.ensures, c.saturating_sub-2.ensures, c.from-wire.ensures)
+    (number_tests c.args.n c.args.changed.now c.args.marks.now c.args.number c.requires.n_bound.0)

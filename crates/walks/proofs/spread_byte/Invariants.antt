@@ -1,11 +1,7 @@
 -- `walks::spread_byte` meets its contract. The loop's invariant: the first b bits are put. Assumes nothing.
-use Prim.Native.Nat.{◌-◌, ◌≤◌}
 use Rattle.netlist.specs.Rule.{bit_at}
 use Rattle.lent.specs.Put.{Put}
 use Rattle.walks.proofs.spread_byte.Given as goal
 
 abbrev pub invariant-loop-b : goal.invariant-loop-b
-invariant-loop-b l = (l.b ≤ 8) × Put (bit_at l.byte) l.at l.b l.initial.wires l.wires
-
-abbrev pub decreases-loop-b : goal.decreases-loop-b
-decreases-loop-b l = 8 - l.b
+invariant-loop-b l = Put (bit_at l.byte) l.at l.b l.initial.wires l.wires

@@ -1,10 +1,6 @@
 -- `walks::spread_flops` meets its contract. The loop's invariant: the bits of the first s slices are on their wires. Assumes nothing.
-use Prim.Native.Nat.{◌-◌, ◌≤◌}
 use Rattle.walks.specs.Walks.{FlopsOn}
 use Rattle.walks.proofs.spread_flops.Given as goal
 
 abbrev pub invariant-loop-s : goal.invariant-loop-s
-invariant-loop-s l = (l.s ≤ l.n) × FlopsOn l.n l.m l.flops l.s l.initial.wires l.wires
-
-abbrev pub decreases-loop-s : goal.decreases-loop-s
-decreases-loop-s l = l.n - l.s
+invariant-loop-s l = FlopsOn l.n l.m l.flops l.s l.initial.wires l.wires

@@ -1,6 +1,0 @@
--- `quagmuffin::qm_settle` meets its contract: the answer is small, so it packs. Assumes nothing.
-use Rattle.quagmuffin.proofs.Small.{called_small, settle_most}
-use Rattle.quagmuffin.proofs.qm_settle.Goals as goal
-
-pub pack_answer-requires : goal.pack_answer-requires
-pack_answer-requires c = called_small (λ n m. settle_most _ _ _ _ n m) c.settle.ensures
