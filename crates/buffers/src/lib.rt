@@ -7,7 +7,7 @@ ghost use Rattle.clocknumbers.specs.Numbers.{edge_length};
 ghost use Rattle.column.specs.Clock.{state_of};
 ghost use Rattle.buffers.specs.Buffers.{bad_state, bad_lengths, bad_bytes, bad_word_by, bad_words_by, settle_refusal_by, edit_refusal_by, bad_table_by};
 
-use clocknumbers::{EDGE_LENGTH, KINDS};
+use clocknumbers::{EDGE_LENGTH, KINDS, TableKind};
 use netlist::SLICE_SIGNALS;
 use slicefile::Reason;
 
@@ -48,82 +48,88 @@ fn bad_bytes(bytes: &[u8]) -> bool
     found
 }
 
-// Whether a word has bits 32 to 63 set while table t is in shift mode, by the kinds among the edges' numbers of n slices.
-fn bad_word(edges: &[u16], n: usize, t: usize, word: u64) -> bool
-    requires { (n ≤ slice_limit) × (length edges.now ≡ edge_length * n) × (t < 4 * n) }
-    ensures { result ≡ bad_word_by edges.now t word }
-{
-    let kind = edges[EDGE_LENGTH * (t / 4) + KINDS + t % 4];
-    (2 <= kind) & (4294967296 <= word)
+// The numbers of the edges of n slices.
+#[derive(Clone, Copy)]
+pub struct Edges<'a> {
+    pub numbers: &'a [u16],
+    pub n: usize,
+    pub ghost few: { n ≤ slice_limit },
+    pub ghost whole: { length numbers.now ≡ edge_length * n },
 }
 
-// Whether any word does.
-#[tactic(auto, using(slicefile::proofs::Tests::any_next), unfolding(slicefile::specs::Lists::any_below, crate::specs::Buffers::bad_words_by))]
-fn bad_words(edges: &[u16], n: usize, contents: &[u64]) -> bool
-    requires { (n ≤ slice_limit) × (length edges.now ≡ edge_length * n) × (length contents.now ≡ 4 * n) }
-    ensures { result ≡ bad_words_by edges.now contents.now }
-{
-    let mut found = false;
-    for (t, &word) in contents.iter().enumerate() {
-        found = bad_word(edges, n, t, word) | found;
+impl<'a> Edges<'a> {
+    // Whether a word has bits 32 to 63 set while table t is in shift mode, by the kinds among the numbers.
+    fn bad_word(&self, t: usize, word: u64) -> bool
+        requires { t < 4 * self.now.n }
+        ensures { result ≡ bad_word_by self.now.numbers.now t word }
+    {
+        let kind = TableKind::from(self.numbers[EDGE_LENGTH * (t / 4) + KINDS + t % 4]);
+        matches!(kind, TableKind::Shift | TableKind::ShiftFromNext) & (4294967296 <= word)
     }
-    found
-}
 
-// Whether a table is not there, or its mode does not allow the word.
-pub fn bad_table(edges: &[u16], n: usize, table: usize, word: u64) -> bool
-    requires { (n ≤ slice_limit) × (length edges.now ≡ edge_length * n) }
-    ensures { result ≡ bad_table_by edges.now n table word }
-{
-    if 4 * n <= table {
-        return true;
+    // Whether any word does.
+    #[tactic(auto, using(slicefile::proofs::Tests::any_next), unfolding(slicefile::specs::Lists::any_below, crate::specs::Buffers::bad_words_by))]
+    fn bad_words(&self, contents: &[u64]) -> bool
+        requires { length contents.now ≡ 4 * self.now.n }
+        ensures { result ≡ bad_words_by self.now.numbers.now contents.now }
+    {
+        let mut found = false;
+        for (t, &word) in contents.iter().enumerate() {
+            found = self.bad_word(t, word) | found;
+        }
+        found
     }
-    bad_word(edges, n, table, word)
-}
 
-// The refusal of settling and clocking n slices with m outside inputs, if there is one.
-pub fn settle_refusal(
-    edges: &[u16],
-    n: usize,
-    m: usize,
-    contents: &[u64],
-    flops: &[u8],
-    inputs: &[u8],
-    values: &[u8],
-) -> Result<(), Reason>
-    requires { (n ≤ slice_limit) × (length edges.now ≡ edge_length * n) }
-    ensures { result ≡ settle_refusal_by (bad_words_by edges.now contents.now) (state_of contents.now flops.now) inputs.now values.now n m }
-{
-    if bad_lengths(n, m, contents, flops, inputs, values) {
-        return Err(Reason::WrongBuffer);
+    // Whether a table is not there, or its mode does not allow the word.
+    pub fn bad_table(&self, table: usize, word: u64) -> bool
+        ensures { result ≡ bad_table_by self.now.numbers.now self.now.n table word }
+    {
+        if 4 * self.n <= table {
+            return true;
+        }
+        self.bad_word(table, word)
     }
-    let bytes = bad_bytes(inputs);
-    let words = bad_words(edges, n, contents);
-    if bytes | words {
-        return Err(Reason::OutOfRange);
-    }
-    Ok(())
-}
 
-// The refusal of an edit call, whose list is bad or not, if there is one: that of settling, then the values and the list.
-#[tactic(auto, using(crate::proofs::Splits::edit_splits))]
-pub fn edit_refusal(
-    bad: bool,
-    edges: &[u16],
-    n: usize,
-    m: usize,
-    contents: &[u64],
-    flops: &[u8],
-    inputs: &[u8],
-    values: &[u8],
-) -> Result<(), Reason>
-    requires { (n ≤ slice_limit) × (length edges.now ≡ edge_length * n) }
-    ensures { result ≡ edit_refusal_by bad (bad_words_by edges.now contents.now) (state_of contents.now flops.now) inputs.now values.now n m }
-{
-    settle_refusal(edges, n, m, contents, flops, inputs, values)?;
-    let bytes = bad_bytes(values);
-    if bytes | bad {
-        return Err(Reason::OutOfRange);
+    // The refusal of settling and clocking these slices with m outside inputs, if there is one.
+    pub fn settle_refusal(
+        &self,
+        m: usize,
+        contents: &[u64],
+        flops: &[u8],
+        inputs: &[u8],
+        values: &[u8],
+    ) -> Result<(), Reason>
+        ensures { result ≡ settle_refusal_by (bad_words_by self.now.numbers.now contents.now) (state_of contents.now flops.now) inputs.now values.now self.now.n m }
+    {
+        if bad_lengths(self.n, m, contents, flops, inputs, values) {
+            return Err(Reason::WrongBuffer);
+        }
+        let bytes = bad_bytes(inputs);
+        let words = self.bad_words(contents);
+        if bytes | words {
+            return Err(Reason::OutOfRange);
+        }
+        Ok(())
     }
-    Ok(())
+
+    // The refusal of an edit call, whose list is bad or not, if there is one: that of settling, then the values and the list.
+    #[tactic(auto, using(crate::proofs::Splits::edit_splits))]
+    pub fn edit_refusal(
+        &self,
+        bad: bool,
+        m: usize,
+        contents: &[u64],
+        flops: &[u8],
+        inputs: &[u8],
+        values: &[u8],
+    ) -> Result<(), Reason>
+        ensures { result ≡ edit_refusal_by bad (bad_words_by self.now.numbers.now contents.now) (state_of contents.now flops.now) inputs.now values.now self.now.n m }
+    {
+        self.settle_refusal(m, contents, flops, inputs, values)?;
+        let bytes = bad_bytes(values);
+        if bytes | bad {
+            return Err(Reason::OutOfRange);
+        }
+        Ok(())
+    }
 }

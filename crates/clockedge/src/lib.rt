@@ -9,7 +9,9 @@ ghost use Rattle.slicefile.specs.Format.{slice_limit};
 ghost use Rattle.clockedge.specs.Moves.{EdgeFits, EdgesFit, flops_by, word_by, words_by, bytes_by};
 ghost use Rattle.clockedge.specs.Moved.{Moved};
 
-use clocknumbers::{ADDRESS, DATA, EDGE_LENGTH, ENABLE, FLOPS, KINDS, RESET, VALUES, WRITE};
+use clocknumbers::{
+    ADDRESS, DATA, EDGE_LENGTH, ENABLE, FLOPS, KINDS, RESET, TableKind, VALUES, WRITE,
+};
 
 // The flip-flop byte of a slice after the edge.
 fn next_flops(edge: &[u16], wires: &[u8], old: u8) -> u8
@@ -58,14 +60,14 @@ fn next_word(edge: &[u16], l: usize, wires: &[u8], old: u64, next: u64) -> u64
     if enable != 1 {
         return old;
     }
-    match edge[KINDS + l] {
-        0 => old,
-        1 => {
+    match TableKind::from(edge[KINDS + l]) {
+        TableKind::Logic => old,
+        TableKind::Memory => {
             let address = evaluation::number_on(edge, ADDRESS, 6, wires);
             with_bit(old, address, evaluation::wire(wires, edge[DATA + l]))
         }
-        2 => shifted_word(old, evaluation::wire(wires, edge[DATA + l])),
-        _ => shifted_word(old, bit_31(next)),
+        TableKind::Shift => shifted_word(old, evaluation::wire(wires, edge[DATA + l])),
+        TableKind::ShiftFromNext => shifted_word(old, bit_31(next)),
     }
 }
 

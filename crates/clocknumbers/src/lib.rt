@@ -5,6 +5,7 @@ ghost use Rattle.std.specs.Prelude.{◌≡◌, ◌<◌};
 ghost use Rattle.netlist.specs.Table.{code_of};
 ghost use Rattle.series7.specs.Edge.{main_source, second_source, flop_source};
 ghost use Rattle.clocknumbers.specs.Numbers.{reset_code, address_code, table_kind, data_code, edge_number, edge_numbers};
+ghost use Rattle.clocknumbers.specs.Kinds.{kind_number, kind_numbered};
 
 use slicefile::{
     BYPASS_PIN, CE_PIN, MAIN, MODE, MODE_D, PINS_D, SECOND, SET_RESET_USED, SET_RESET_VALUES,
@@ -34,6 +35,41 @@ pub const DATA: usize = 22;
 pub const WIDTH: usize = 26;
 
 pub const EDGE_LENGTH: usize = 27;
+
+// A table's kind, in the order of the numbers that stand for it among those of an edge, from 0. The last takes its write data from the next letter.
+#[derive(Clone, Copy, Debug, PartialEq, Eq)]
+pub enum TableKind {
+    Logic,
+    Memory,
+    Shift,
+    ShiftFromNext,
+}
+
+impl From<TableKind> for u16 {
+    ghost from_gives = { λ kind k. k ≡ kind_number kind };
+
+    fn from(kind: TableKind) -> u16 {
+        match kind {
+            TableKind::Logic => 0,
+            TableKind::Memory => 1,
+            TableKind::Shift => 2,
+            TableKind::ShiftFromNext => 3,
+        }
+    }
+}
+
+impl From<u16> for TableKind {
+    ghost from_gives = { λ k kind. kind ≡ kind_numbered k };
+
+    fn from(number: u16) -> TableKind {
+        match number {
+            0 => TableKind::Logic,
+            1 => TableKind::Memory,
+            2 => TableKind::Shift,
+            _ => TableKind::ShiftFromNext,
+        }
+    }
+}
 
 // The set/reset pin, where it is used.
 #[tactic(auto, unfolding(crate::specs::Numbers::reset_code))]
@@ -102,17 +138,17 @@ fn flop_code(slice: &Slice, b: usize) -> u16
     }
 }
 
-// A table's kind: 0 logic, 1 memory, 2 shift, 3 shift from the next letter.
+// A table's kind.
 #[tactic(auto, unfolding(crate::specs::Numbers::kind_of))]
-fn table_kind(slice: &Slice, l: usize) -> u16
+fn table_kind(slice: &Slice, l: usize) -> TableKind
     requires { l < 4 }
-    ensures { result ≡ table_kind slice.now.body.now l }
+    ensures { kind_number result ≡ table_kind slice.now.body.now l }
 {
     match slice.body[MODE + l] {
-        0 => 0,
-        1 => 1,
-        _ if slice.body[SHIFT_DATA + l] == 1 => 3,
-        _ => 2,
+        0 => TableKind::Logic,
+        1 => TableKind::Memory,
+        _ if slice.body[SHIFT_DATA + l] == 1 => TableKind::ShiftFromNext,
+        _ => TableKind::Shift,
     }
 }
 
@@ -123,8 +159,8 @@ fn data_code(slice: &Slice, l: usize) -> u16
     ensures { result ≡ data_code slice.now.n slice.now.m slice.now.body.now l }
 {
     match table_kind(slice, l) {
-        0 | 3 => 0,
-        _ => slice.pin_number(BYPASS_PIN + l),
+        TableKind::Logic | TableKind::ShiftFromNext => 0,
+        TableKind::Memory | TableKind::Shift => slice.pin_number(BYPASS_PIN + l),
     }
 }
 
@@ -141,7 +177,7 @@ fn edge_number(slice: &Slice, k: usize) -> u16
         ADDRESS..FLOPS => address_code(slice, k - ADDRESS),
         FLOPS..VALUES => flop_code(slice, k - FLOPS),
         VALUES => u16::from(slice.body[SET_RESET_VALUES]),
-        KINDS..DATA => table_kind(slice, k - KINDS),
+        KINDS..DATA => u16::from(table_kind(slice, k - KINDS)),
         DATA..WIDTH => data_code(slice, k - DATA),
         _ => 8,
     }

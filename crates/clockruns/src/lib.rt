@@ -8,6 +8,7 @@ ghost use Rattle.column.specs.Clock.{state_was, state_left};
 ghost use Rattle.quagmuffin.specs.Packed.{Answered};
 ghost use Rattle.clockruns.specs.Rows.{clock_count, RanPlan, RowPlanned, RunsRow};
 
+use buffers::Edges;
 use netlist::{SIGNAL_WIRE, SLICE_SIGNALS, WIRE_LIMIT};
 use plan::{PLAN_LIMIT, Plan};
 use slicefile::{Refusal, Size};
@@ -54,9 +55,12 @@ fn row_planned(
     ensures { RowPlanned plan.now.numbers.now plan.now.n plan.now.m (state_was contents flops) (state_left contents flops) inputs.now values.old values.new result }
 {
     let k = clock_count(inputs, plan.m);
-    let edges = plan.edges();
+    let edges = Edges {
+        numbers: plan.edges(),
+        n: plan.n,
+    };
     let count = plan.m * k;
-    let tested = buffers::settle_refusal(edges, plan.n, count, contents, flops, inputs, values);
+    let tested = edges.settle_refusal(count, contents, flops, inputs, values);
     tested.map_err(|reason| reason.at(0))?;
     run_clocks(plan, k, contents, flops, inputs, values, wires);
     Ok(())

@@ -47,6 +47,10 @@ judged_unique file (loop e b l s) (bad f) = absurd (not_both (check_file file) f
 judged_unique file (loop e b l s) (accepted f h) = absurd (no_signal (check_file file) (Loop file) f e h b l)
 judged_unique file (loop e b l s) (loop f b' l' s') = ap (λ (p : ℕ). Err (refused OnLoop p)) (smallest_unique (Loop file) l l' s s')
 
+-- a file with a bad record
+pub bad_judged : (file : List ℕ) {v : Verdict} {r : Refusal} → v ≡ check_file file → v ≡ Err r → Judged file (Err r)
+bad_judged file e f = bad (sym e ∙ f)
+
 -- a loaded file is judged
 pub loaded_judged : (file table order : List ℕ) (v : Verdict) → Loaded file table order v → Judged file v
 loaded_judged file table order (Err r) l = l

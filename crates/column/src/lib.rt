@@ -89,23 +89,47 @@ pub fn check_file(file: &[u8]) -> Verdict
     check_from(file, 0).checked
 }
 
-// The body of slice s of a sound file.
-pub fn slice_body(file: &[u8], n: usize, m: usize, s: usize) -> &[u8]
-    requires { IsSound file.now n m × (s < n) }
-    ensures { result.now ≡ slice_body file.now s }
-{
-    let at = SIZE_RECORD + SLICE_RECORD * s + HEAD;
-    &file[at..at + SLICE_BODY]
+// A file whose records are sound, of n slices and m outside inputs.
+#[derive(Clone, Copy)]
+pub struct Sound<'a> {
+    pub file: &'a [u8],
+    pub n: usize,
+    pub m: usize,
+    pub ghost checked: { IsSound file.now n m },
+}
+
+impl<'a> Sound<'a> {
+    // The body of slice s.
+    pub fn slice_body(&self, s: usize) -> &'a [u8]
+        requires { s < self.now.n }
+        ensures { result.now ≡ slice_body self.now.file.now s }
+    {
+        let at = SIZE_RECORD + SLICE_RECORD * s + HEAD;
+        &self.file[at..at + SLICE_BODY]
+    }
+
+    // Slice s.
+    pub fn slice(&self, s: usize) -> Slice<'a>
+        requires { s < self.now.n }
+        ensures sizes { (result.n ≡ self.now.n) × (result.m ≡ self.now.m) × (result.s ≡ s) }
+        ensures body { result.body.now ≡ slice_body self.now.file.now s }
+    {
+        Slice {
+            n: self.n,
+            m: self.m,
+            s,
+            body: self.slice_body(s),
+        }
+    }
 }
 
 // Puts the rows of slice s of a sound file into the gate table, after those of the slices before it.
-fn lower_slice(file: &[u8], n: usize, m: usize, s: usize, table: &mut [u16])
-    requires sound { IsSound file.now n m × (s < n) × (length table.old ≡ table_length n) }
-    requires lowered_to { LoweredTo file.now n table.old (slice_signals * s) }
-    ensures { LoweredTo file.now n table.new (slice_signals * s + slice_signals) }
+fn lower_slice(sound: &Sound, s: usize, table: &mut [u16])
+    requires table_len { (s < sound.now.n) × (length table.old ≡ table_length sound.now.n) }
+    requires lowered_to { LoweredTo sound.now.file.now sound.now.n table.old (slice_signals * s) }
+    ensures { LoweredTo sound.now.file.now sound.now.n table.new (slice_signals * s + slice_signals) }
 {
-    let body = slice_body(file, n, m, s);
-    let slice = Slice { n, m, s, body };
+    let slice = sound.slice(s);
     let pins = slice.pin_numbers();
     let pinned = Pinned { slice, pins: &pins };
     for k in 0..SLICE_SIGNALS {
@@ -115,52 +139,46 @@ fn lower_slice(file: &[u8], n: usize, m: usize, s: usize, table: &mut [u16])
 }
 
 // Puts the netlist of a sound file into the gate table.
-fn lower(file: &[u8], n: usize, m: usize, table: &mut [u16])
-    requires { IsSound file.now n m × (length table.old ≡ table_length n) }
-    ensures { Lowered file.now n table.new }
+fn lower(sound: &Sound, table: &mut [u16])
+    requires { length table.old ≡ table_length sound.now.n }
+    ensures { Lowered sound.now.file.now sound.now.n table.new }
 {
-    for s in 0..n {
-        lower_slice(file, n, m, s, table);
+    for s in 0..sound.n {
+        lower_slice(sound, s, table);
     }
 }
 
 // Lowers a sound file and puts its signals in order, or finds the smallest one on a loop.
-fn compile(
-    file: &[u8],
-    n: usize,
-    m: usize,
-    table: &mut [u16],
-    order: &mut [u16],
-) -> Result<(), usize>
-    requires sound { IsSound file.now n m }
-    requires table_len { (length table.old ≡ table_length n) × (length order.old ≡ signal_count n) }
-    ensures { Compiled file.now n table.new order.new result }
+fn compile(sound: &Sound, table: &mut [u16], order: &mut [u16]) -> Result<(), usize>
+    requires { (length table.old ≡ table_length sound.now.n) × (length order.old ≡ signal_count sound.now.n) }
+    ensures { Compiled sound.now.file.now sound.now.n table.new order.new result }
 {
-    lower(file, n, m, table);
-    toposort::order_or_loop(table, n, order)
+    lower(sound, table);
+    toposort::order_or_loop(table, sound.n, order)
 }
 
 // The verdict on a file whose records are sound, its netlist at the front of the table and an order of its signals at the front of the other.
-fn load_sound(file: &[u8], n: usize, m: usize, table: &mut [u16], order: &mut [u16]) -> Verdict
-    requires sound { IsSound file.now n m }
-    requires table_len { (length table.old ≡ table_limit) × (length order.old ≡ signal_limit) }
-    ensures { Loaded file.now table.new order.new result }
+fn load_sound(sound: &Sound, table: &mut [u16], order: &mut [u16]) -> Verdict
+    requires { (length table.old ≡ table_limit) × (length order.old ≡ signal_limit) }
+    ensures { Loaded sound.now.file.now table.new order.new result }
 {
+    let Sound { n, m, .. } = *sound;
     let numbers = SLICE_NUMBERS * n;
     let signals = SLICE_SIGNALS * n;
-    match compile(file, n, m, &mut table[..numbers], &mut order[..signals]) {
+    match compile(sound, &mut table[..numbers], &mut order[..signals]) {
         Err(signal) => Err(Reason::OnLoop.at(signal)),
         Ok(()) => Ok(Size { n, m }),
     }
 }
 
 // Judges any bytes, and leaves what the calls on an accepted file run on: its netlist in the gate table, and an order.
+#[tactic(auto, using(crate::proofs::Verdicts::bad_judged))]
 pub fn load(file: &[u8], table: &mut [u16], order: &mut [u16]) -> Verdict
     requires { (length table.old ≡ table_limit) × (length order.old ≡ signal_limit) }
     ensures { Loaded file.now table.new order.new result }
 {
     let Size { n, m } = check_file(file)?;
-    load_sound(file, n, m, table, order)
+    load_sound(&Sound { file, n, m }, table, order)
 }
 
 // Judges any bytes. Never inlined: a caller that doesn't get here shall not pay for its arrays.

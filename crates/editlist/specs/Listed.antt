@@ -12,7 +12,7 @@ edit kind number value = record { kind = kind; number = number; value = value }
 abbrev pub none : Edit
 none = edit 0 0 0
 
--- ---- a list in words, three an edit: its kind, its number, its value. No code has them so; what is done with them is done with the list
+-- ---- a list in words, three an edit: its kind, its number, its value, whatever numbers they are
 abbrev pub edit_words : ℕ
 edit_words = 3
 

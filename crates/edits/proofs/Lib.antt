@@ -4,3 +4,4 @@ pub mod Planned
 pub mod Demands
 pub mod Turns
 pub mod Listed
+pub mod Words

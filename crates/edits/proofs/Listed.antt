@@ -16,9 +16,18 @@ use Rattle.calls.specs.Calls.{judged, refused, done}
 use Rattle.edits.specs.Edits.{bad_edits, state_in, EditsMade}
 
 -- a list that is too long is bad, whatever is in it
-too_long : (bad : ℕ → ℕ → Bool) (m : ℕ) (es : List Edit) → ltb edit_limit (length es) ≡ true → bad_edits bad m es ≡ true
+pub too_long : (bad : ℕ → ℕ → Bool) (m : ℕ) (es : List Edit) → ltb edit_limit (length es) ≡ true → bad_edits bad m es ≡ true
 unfolding bad_edits
 too_long bad m es e = rw e
+
+-- of two lists that are bad alike, and the same where they are not bad, the call promises the same
+module _ (file : List ℕ) (before after : Env) (es ds : List Edit) (old new : List ℕ) (bad : (n m : ℕ) → bad_edits (bad_table file n) m ds ≡ bad_edits (bad_table file n) m es) (same : (n m : ℕ) → bad_edits (bad_table file n) m es ≡ false → es ≡ ds) where
+  pub made_alike : {r : Answer} → EditsMade file before after es old new r → EditsMade file before after ds old new r
+  made_alike (judged j kept) = judged j kept
+  made_alike (refused {size} j z kept) =
+      refused j (ap (λ (b : Bool). edit_refusal b file (state_in before) before.inputs old size.n size.m) (bad size.n size.m) ∙ z) kept
+  made_alike {r} (done {size} j z d) =
+      subst (λ (cs : List Edit). EditsMade file before after cs old new r) (same size.n size.m (edit_argument _ file (state_in before) before.inputs old size.n size.m z)) (done j z d)
 
 module _ (file : List ℕ) (before after : Env) (es : List Edit) (words old new : List ℕ) where
   abbrev listed : List Edit
@@ -33,11 +42,9 @@ module _ (file : List ℕ) (before after : Env) (es : List Edit) (words old new 
   bad_alike e n m = too_long (bad_table file n) m es e ∙ sym (too_long (bad_table file n) m listed (rw (edits_long words 0 (length es)) e))
 
   many : ltb edit_limit (length es) ≡ true → {r : Answer} → EditsMade file before after listed old new r → EditsMade file before after es old new r
-  many e (judged j kept) = judged j kept
-  many e (refused {size} j z kept) =
-      refused j (ap (λ (b : Bool). edit_refusal b file (state_in before) before.inputs old size.n size.m) (bad_alike e size.n size.m) ∙ z) kept
-  many e (done {size} j z d) =
-      absurd (true≢false (sym (too_long (bad_table file size.n) size.m es e) ∙ bad_alike e size.n size.m ∙ edit_argument _ file (state_in before) before.inputs old size.n size.m z))
+  many e =
+      made_alike file before after listed es old new (bad_alike e)
+      (λ n m fits. absurd (true≢false (sym (too_long (bad_table file n) m es e) ∙ bad_alike e n m ∙ fits)))
 
   pub edits_listed : {r : Answer} → Listed es (listed_count (length es)) words → EditsMade file before after listed old new r → EditsMade file before after es old new r
   edits_listed {r} l c = by (ltb edit_limit (length es)) refl

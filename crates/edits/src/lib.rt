@@ -1,14 +1,15 @@
 // The call on a slice file and lent buffers that changes it as it runs: the edits of a list.
 #![tactic(auto)]
 
-ghost use Rattle.std.specs.Prelude.{◌≡◌, [], ◌∷◌, ◌*◌, ◌≤◌, length};
-ghost use Rattle.slicefile.specs.Format.{slice_limit};
-ghost use Rattle.clocknumbers.specs.Numbers.{edge_length};
+ghost use Rattle.std.specs.Prelude.{◌≡◌, [], ◌∷◌, ◌<◌, length};
+ghost use Rattle.editlist.specs.Listed.{edit_limit, edits_in};
 ghost use Rattle.buffers.specs.Buffers.{bad_table_by};
 ghost use Rattle.edits.specs.Edits.{change_of, changes_of, bad_edit, bad_edits, Edits, PlanEdits};
 ghost use Rattle.edits.specs.Storing.{store, Marks, Storable, AllStorable, Stores};
+ghost use Rattle.edits.specs.Words.{handed, Handed};
 
-use editlist::{EDIT_LIMIT, Edit};
+use buffers::Edges;
+use editlist::{EDIT_LIMIT, EDIT_WORDS, Edit, LIST_WORDS};
 use plan::{PLAN_LIMIT, Plan};
 use slicefile::{INPUT_LIMIT, Refusal, SLICE_LIMIT, Size};
 
@@ -16,29 +17,27 @@ use slicefile::{INPUT_LIMIT, Refusal, SLICE_LIMIT, Size};
 const CONTENTS_LIMIT: usize = 4 * SLICE_LIMIT;
 
 // Whether an edit is of no kind, or its change is not in range.
-fn bad_edit(edges: &[u16], n: usize, m: usize, edit: Edit) -> bool
-    requires { (n ≤ slice_limit) × (length edges.now ≡ edge_length * n) }
-    ensures { result ≡ bad_edit (bad_table_by edges.now n) m edit }
+fn bad_edit(edges: &Edges, m: usize, edit: Edit) -> bool
+    ensures { result ≡ bad_edit (bad_table_by edges.now.numbers.now edges.now.n) m edit }
 {
     let at = edit.number as usize;
     if edit.kind == 0 {
         return (m <= at) | (1 < edit.value);
     }
-    buffers::bad_table(edges, n, at, edit.value) | (1 < edit.kind)
+    edges.bad_table(at, edit.value) | (1 < edit.kind)
 }
 
 // Whether a list of edits is too long, or one of them is bad.
 #[tactic(auto, unfolding(crate::specs::Edits::bad_edits))]
-fn bad_edits(edges: &[u16], n: usize, m: usize, edits: &[Edit]) -> bool
-    requires { (n ≤ slice_limit) × (length edges.now ≡ edge_length * n) }
-    ensures { result ≡ bad_edits (bad_table_by edges.now n) m edits.now }
+fn bad_edits(edges: &Edges, m: usize, edits: &[Edit]) -> bool
+    ensures { result ≡ bad_edits (bad_table_by edges.now.numbers.now edges.now.n) m edits.now }
 {
     if EDIT_LIMIT < edits.len() {
         return true;
     }
     let mut found = false;
     for edit in edits {
-        found |= bad_edit(edges, n, m, *edit);
+        found |= bad_edit(edges, m, *edit);
     }
     found
 }
@@ -94,18 +93,17 @@ fn edit_planned(
 ) -> Result<(), Refusal>
     ensures { PlanEdits plan.now.numbers.now plan.now.n plan.now.m contents flops inputs values edits.now result }
 {
-    let edges = plan.edges();
-    let bad = bad_edits(edges, plan.n, plan.m, edits);
-    let tested = buffers::edit_refusal(bad, edges, plan.n, plan.m, contents, flops, inputs, values);
+    let edges = Edges {
+        numbers: plan.edges(),
+        n: plan.n,
+    };
+    let bad = bad_edits(&edges, plan.m, edits);
+    let tested = edges.edit_refusal(bad, plan.m, contents, flops, inputs, values);
     tested.map_err(|reason| reason.at(0))?;
     let mut changed = [0u8; INPUT_LIMIT];
     let mut edited = [0u8; CONTENTS_LIMIT];
     store_edits(edits, contents, inputs, &mut changed, &mut edited);
-    let table = plan.table();
-    let order = plan.order();
-    walks::edit_by(
-        table, plan.n, order, contents, inputs, values, &changed, &edited,
-    );
+    walks::edit_by(&plan.walk(), contents, inputs, values, &changed, &edited);
     Ok(())
 }
 
@@ -128,4 +126,50 @@ pub fn edit(
         m,
     };
     edit_planned(&plan, contents, flops, inputs, values, edits)
+}
+
+// Edit i of a list in words; a kind above a byte's becomes one that is of no kind either.
+fn edit_at(words: &[u64; LIST_WORDS], i: usize) -> Edit
+    requires { i < edit_limit }
+    ensures { result ≡ handed words.now i }
+{
+    let at = EDIT_WORDS * i;
+    Edit {
+        kind: u8::try_from(words[at]).unwrap_or(u8::MAX),
+        number: words[at + 1],
+        value: words[at + 2],
+    }
+}
+
+// The edits of a list in words, and one more, so that a longer list can be told.
+fn list_words(words: &[u64; LIST_WORDS]) -> [Edit; EDIT_LIMIT + 1]
+    ensures { Handed words.now edit_limit result }
+{
+    let none = Edit {
+        kind: 0,
+        number: 0,
+        value: 0,
+    };
+    let mut edits = [none; EDIT_LIMIT + 1];
+    for i in 0..EDIT_LIMIT {
+        edits[i] = edit_at(words, i);
+    }
+    edits
+}
+
+// The same with the first `count` edits of a list in words, whatever numbers they hold.
+pub fn edit_words(
+    file: &[u8],
+    contents: &mut [u64],
+    flops: &[u8],
+    inputs: &mut [u8],
+    values: &mut [u8],
+    words: [u64; LIST_WORDS],
+    count: usize,
+) -> Result<(), Refusal>
+    ensures { Edits file contents flops inputs values (edits_in words count) result }
+{
+    let edits = list_words(&words);
+    let most = count.min(EDIT_LIMIT + 1);
+    edit(file, contents, flops, inputs, values, &edits[..most])
 }

@@ -3,8 +3,10 @@
 
 ghost use Rattle.std.specs.Prelude.{◌≡◌, ◌+◌, ◌*◌, ◌^◌, ◌≤◌, ◌<◌, length, get_or};
 ghost use Rattle.netlist.specs.Rule.{choose};
-ghost use Rattle.netlist.specs.Table.{row_length, signal_count, IsTable, stored_head};
+ghost use Rattle.netlist.specs.Table.{row_length, signal_count, stored_head};
 ghost use Rattle.evaluation.specs.Numbers.{Bits, AreWires, number_on, GateGives};
+
+use netlist::{Gates, ROW};
 
 // The bit on the wire at a number.
 pub fn wire(wires: &[u8], number: u16) -> u8
@@ -34,14 +36,15 @@ fn choose(select: u8, one: u8, zero: u8) -> u8
     if select == 0 { zero } else { one }
 }
 
-// What signal x's gate gives by the wires, in the gate table of n slices. It is no flip-flop's. What a gate but a look-up may give is worked out before its
+// What signal x's gate gives by the wires. It is no flip-flop's. What a gate but a look-up may give is worked out before its
 // head is tested, so that only the test for a look-up is a branch.
-pub fn gate_value(table: &[u16], n: usize, x: usize, contents: &[u64], wires: &[u8]) -> u8
-    requires table { IsTable n table.now × (x < signal_count n) × (get_or table.now (row_length * x) 0 < stored_head n) }
-    requires are_wires { AreWires wires.now table.now (row_length * x + 1) 6 × Bits wires.now }
-    ensures { GateGives contents.now wires.now n x table.now result }
+pub fn gate_value(gates: &Gates, x: usize, contents: &[u64], wires: &[u8]) -> u8
+    requires table { (x < signal_count gates.now.n) × (get_or gates.now.table.now (row_length * x) 0 < stored_head gates.now.n) }
+    requires are_wires { AreWires wires.now gates.now.table.now (row_length * x + 1) 6 × Bits wires.now }
+    ensures { GateGives contents.now wires.now gates.now.n x gates.now.table.now result }
 {
-    let at = netlist::ROW * x;
+    let Gates { table, n } = *gates;
+    let at = ROW * x;
     let head = usize::from(table[at]);
     if head < 4 * n {
         let k = number_on(table, at + 1, 6, wires);

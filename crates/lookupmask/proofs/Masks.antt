@@ -25,7 +25,7 @@ module _ (w k : ℕ) (small : k < 64) where
       let double : 2 ^ (1 + k) ≡ 2 * 2 ^ k = pow-add 2 1 k in
       power k small ∙ omega (arith, double)
 
-  masked : bit_and w (1 * 2 ^ k % 2 ^ 64) ≡ bit_at w k * 2 ^ k
+  pub masked : bit_and w (1 * 2 ^ k % 2 ^ 64) ≡ bit_at w k * 2 ^ k
   masked = ap (bit_and w) mask ∙ and_high w 1 k
 
   pub masked_bit : bool_byte (not (eqb (bit_and w (1 * 2 ^ k % 2 ^ 64)) 0)) ≡ bit_at w k

@@ -3,7 +3,7 @@
 
 ghost use Rattle.std.specs.Prelude.{◌≡◌, ◌+◌, ◌*◌, ◌≤◌, length};
 ghost use Rattle.std.proofs.lemmas.List.Edits.{sets};
-ghost use Rattle.netlist.specs.Table.{row_length};
+ghost use Rattle.netlist.specs.Table.{row_length, IsTable};
 
 // How many signals and how many outside inputs a netlist may have.
 pub const SIGNAL_LIMIT: usize = 2048;
@@ -11,6 +11,7 @@ pub const SIGNAL_LIMIT: usize = 2048;
 pub const INPUT_ROOM: usize = 64;
 
 // The signals of a slice; the numbers of a signal's row in the gate table, its head and six sources; and those of a slice.
+// What a gate computes is told by its head, a number, since the plan that holds the table is one buffer of 16-bit numbers of fixed size.
 pub const SLICE_SIGNALS: usize = 32;
 
 pub const ROW: usize = 7;
@@ -59,6 +60,14 @@ pub enum Gate {
     Same(Source),
     // A flip-flop: bit slot % 8 of flip-flop byte slot / 8.
     Stored(usize),
+}
+
+// The gate table of n slices.
+#[derive(Clone, Copy)]
+pub struct Gates<'a> {
+    pub table: &'a [u16],
+    pub n: usize,
+    pub ghost is_table: { IsTable n table.now },
 }
 
 // Puts signal x's row into the gate table.

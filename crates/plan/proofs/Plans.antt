@@ -35,10 +35,6 @@ module _ {n m : ℕ} {plan : List ℕ} (r : Runnable n m plan) where
   pub edges_long : {edges : List ℕ} → edges ≡ plan_edges plan n → length edges ≡ edge_length * n
   edges_long e = rw e (length-take-le (edge_length * n) (drop (edges_place n) plan) (omega (arith, length-drop (edges_place n) plan, r.room)))
 
-  pub parts_walk :
-      {table order : List ℕ} {count : ℕ} → table ≡ plan_table plan n → order ≡ plan_order plan n → count ≡ m → Walkable n count table order
-  parts_walk t o i = rw (t, o, i) r.walk
-
   pub parts_edges : {edges wires : List ℕ} → edges ≡ plan_edges plan n → IsWires n m wires → EdgesFit n wires edges
   parts_edges e w = rw e (r.edges _ w)
 

@@ -5,16 +5,15 @@ ghost use Rattle.std.specs.Prelude.{◌≡◌, ◌+◌, ◌*◌, ◌≤◌, ◌<
 ghost use Rattle.lent.specs.Put.{Put};
 ghost use Rattle.clocknumbers.specs.Numbers.{edge_length};
 ghost use Rattle.netlist.specs.Table.{signal_limit};
-ghost use Rattle.column.specs.Check.{IsSound};
 ghost use Rattle.column.specs.Compile.{Ready as Netlisted};
 ghost use Rattle.plan.specs.Plan.{edges_place, plan_length, plan_limit, plan_table, plan_edges, plan_order, edges_of, Ready, Loaded, Runnable};
 ghost use Rattle.plan.specs.Props.{Runnable-prop};
 
 use clocknumbers::EDGE_LENGTH;
-use column::TABLE_LIMIT;
-use netlist::{SIGNAL_LIMIT, SLICE_NUMBERS, SLICE_SIGNALS};
-use slicefile::{SLICE_LIMIT, Verdict};
-use sources::Slice;
+use column::{Sound, TABLE_LIMIT};
+use netlist::{Gates, SIGNAL_LIMIT, SLICE_NUMBERS, SLICE_SIGNALS};
+use slicefile::{SLICE_LIMIT, Size, Verdict};
+use walks::Walk;
 
 // The numbers of the longest file's plan.
 pub const PLAN_LIMIT: usize = (SLICE_NUMBERS + EDGE_LENGTH + SLICE_SIGNALS) * SLICE_LIMIT;
@@ -75,31 +74,46 @@ impl<'a> Plan<'a> {
     {
         order(self.numbers, self.n)
     }
+
+    // The walk along its order.
+    pub fn walk(&self) -> Walk<'a>
+        ensures gates { (result.gates.table.now ≡ plan_table self.now.numbers.now self.now.n) × (result.gates.n ≡ self.now.n) }
+        ensures order { (result.order.now ≡ plan_order self.now.numbers.now self.now.n) × (result.m ≡ self.now.m) }
+    {
+        let gates = Gates {
+            table: self.table(),
+            n: self.n,
+        };
+        Walk {
+            gates,
+            m: self.m,
+            order: self.order(),
+        }
+    }
 }
 
 // Puts the numbers of the edges of a sound file's slices behind the gate table.
 #[tactic(auto, using(crate::proofs::Numbers::sound_for))]
-fn put_edges(file: &[u8], n: usize, m: usize, plan: &mut [u16])
-    requires { IsSound file.now n m × (length plan.old ≡ plan_limit) }
-    ensures { Put (edges_of file.now n m) (edges_place n) (edge_length * n) plan.old plan.new }
+fn put_edges(sound: &Sound, plan: &mut [u16])
+    requires { length plan.old ≡ plan_limit }
+    ensures { Put (edges_of sound.now.file.now sound.now.n sound.now.m) (edges_place sound.now.n) (edge_length * sound.now.n) plan.old plan.new }
 {
-    for s in 0..n {
-        let body = column::slice_body(file, n, m, s);
-        let slice = Slice { n, m, s, body };
-        let at = SLICE_NUMBERS * n + EDGE_LENGTH * s;
+    for s in 0..sound.n {
+        let slice = sound.slice(s);
+        let at = SLICE_NUMBERS * sound.n + EDGE_LENGTH * s;
         plan[at..at + EDGE_LENGTH].copy_from_slice(&clocknumbers::edge_of(&slice));
     }
 }
 
 // Puts the edges' numbers and the order of an accepted file behind its gate table.
-fn complete(file: &[u8], n: usize, m: usize, turns: &[u16], plan: &mut [u16])
-    requires netlisted { Netlisted file.now n m plan.old turns.now }
+fn complete(sound: &Sound, turns: &[u16], plan: &mut [u16])
+    requires netlisted { Netlisted sound.now.file.now sound.now.n sound.now.m plan.old turns.now }
     requires turns_len { (length turns.now ≡ signal_limit) × (length plan.old ≡ plan_limit) }
-    ensures { Ready file.now n m plan.new }
+    ensures { Ready sound.now.file.now sound.now.n sound.now.m plan.new }
 {
-    put_edges(file, n, m, plan);
-    let place = (SLICE_NUMBERS + EDGE_LENGTH) * n;
-    let count = SLICE_SIGNALS * n;
+    put_edges(sound, plan);
+    let place = (SLICE_NUMBERS + EDGE_LENGTH) * sound.n;
+    let count = SLICE_SIGNALS * sound.n;
     plan[place..place + count].copy_from_slice(&turns[..count]);
 }
 
@@ -109,7 +123,7 @@ pub fn load(file: &[u8], plan: &mut [u16]) -> Verdict
     ensures { Loaded file.now plan.new result }
 {
     let mut turns = [0u16; SIGNAL_LIMIT];
-    let size = column::load(file, &mut plan[..TABLE_LIMIT], &mut turns)?;
-    complete(file, size.n, size.m, &turns, plan);
-    Ok(size)
+    let Size { n, m } = column::load(file, &mut plan[..TABLE_LIMIT], &mut turns)?;
+    complete(&Sound { file, n, m }, &turns, plan);
+    Ok(Size { n, m })
 }

@@ -23,7 +23,7 @@ use Rattle.slicerecord.specs.declared.Record.{Record}
 use Rattle.buffers.specs.Buffers.{bad_state, bad_lengths, bad_bytes, bad_words, settle_refusal, edit_refusal}
 use Rattle.calls.specs.Calls.{Called, judged, refused, done}
 use Rattle.quagmuffin.specs.Bodies.{bad_body, read_body_refusal, write_body_refusal}
-use Rattle.quagmuffin.specs.Packed.{Fits, SmallAnswer, SmallVerdict}
+use Rattle.quagmuffin.specs.Packed.{FitsAnswer, Fits, SmallAnswer, SmallVerdict}
 
 -- a judged file's verdict
 pub judged_small : (file : List ℕ) {v : Verdict} → Judged file v → SmallVerdict v
@@ -37,12 +37,21 @@ pub small_fits : (v : Verdict) → SmallVerdict v → Fits v
 small_fits (Ok size) s = (omega (arith, s.1), omega (arith, s.2))
 small_fits (Err r) s = (omega (arith, s.1), omega (arith, s.2))
 
+answer_packs : (a : Answer) → SmallAnswer a → FitsAnswer a
+answer_packs (Ok u) s = tt
+answer_packs (Err r) s = (omega (arith, s.1), omega (arith, s.2))
+
 -- the answer of a call on a file, whose own refusal is at most 11
 pub called_small : {file : List ℕ} {own : ℕ → ℕ → Tested} {Kept : Type 0} {Did : ℕ → ℕ → Type 0} {r : Answer} → ((n m : ℕ) → Most 11 (own n m))
     → Called file own Kept Did r → SmallAnswer r
 called_small {file} most (judged j kept) = judged_small file j
 called_small most (refused {size} {r} j e kept) = let l = subst (Most 11) e (most size.n size.m) in (l.0, l.1, omega arith, l.2)
 called_small most (done j e did) = tt
+
+-- and so it packs
+pub called_fits : {file : List ℕ} {own : ℕ → ℕ → Tested} {Kept : Type 0} {Did : ℕ → ℕ → Type 0} {r : Answer} → ((n m : ℕ) → Most 11 (own n m))
+    → Called file own Kept Did r → FitsAnswer r
+called_fits {r = r} most c = answer_packs r (called_small most c)
 
 -- the calls' own refusals
 pub power_most : (n : ℕ) (st : State) → Most 11 (given WrongBuffer (bad_state n st))
@@ -92,3 +101,6 @@ write_body_most body n m part = test_most 11 WrongBuffer (bad_body body) _ (omeg
 pub answer_small : (t : Tested) → Most 11 t → SmallAnswer (answer_of t)
 answer_small (Ok u) h = tt
 answer_small (Err r) h = (h.0, h.1, omega arith, h.2)
+
+pub answer_fits : (t : Tested) → Most 11 t → FitsAnswer (answer_of t)
+answer_fits t h = answer_packs (answer_of t) (answer_small t h)

@@ -41,9 +41,13 @@ pub record Packed {A : Type 0} (packed : A → ℕ) (Promise : A → Type 0) (nu
 abbrev pub Answered : (Answer → Type 0) → ℕ → Type 0
 Answered = Packed pack_answer
 
--- a refusal, a verdict that 64 bits hold
+-- a refusal, an answer, a verdict that 64 bits hold
 abbrev pub FitsRefusal : Refusal → Type 0
 FitsRefusal r = (number r.reason < 256) × (r.place < 2 ^ 56)
+
+abbrev pub FitsAnswer : Answer → Type 0
+FitsAnswer (Ok u) = Unit {0}
+FitsAnswer (Err r) = FitsRefusal r
 
 abbrev pub Fits : Verdict → Type 0
 Fits (Ok size) = (size.n < 65536) × (size.m < 2 ^ 40)

@@ -7,7 +7,7 @@ ghost use Rattle.calls.specs.Calls.{PowersUp};
 ghost use Rattle.simulator.specs.Running.{Settles, Clocks};
 ghost use Rattle.edits.specs.Edits.{Edits};
 ghost use Rattle.quagmuffin.specs.Bodies.{ReadInto, WrittenFrom, RecordRead, RecordWritten};
-ghost use Rattle.quagmuffin.specs.Packed.{pack_refusal, pack_answer, pack_verdict, unpack_verdict, FitsRefusal, Fits, SmallAnswer, Packed, Answered};
+ghost use Rattle.quagmuffin.specs.Packed.{pack_refusal, pack_answer, pack_verdict, unpack_verdict, FitsRefusal, FitsAnswer, Fits, Packed, Answered};
 ghost use Rattle.quagmuffin.specs.Serial.{pack_reply, unpack_reply, FitsReply, loaded, words_of, FeedsWords};
 
 use editlist::Edit;
@@ -24,7 +24,7 @@ fn pack_refusal(refusal: Refusal) -> u64
 
 // A call's answer.
 pub fn pack_answer(answer: Result<(), Refusal>) -> u64
-    requires { SmallAnswer answer }
+    requires { FitsAnswer answer }
     ensures { result ≡ pack_answer answer }
 {
     match answer {
@@ -53,7 +53,7 @@ pub fn qm_judge(file: &[u8]) -> u64
 }
 
 // Fills 4n words of contents and n flip-flop bytes with the state at power-up.
-#[tactic(auto, using(crate::proofs::Small::called_small, crate::proofs::Small::power_most))]
+#[tactic(auto, using(crate::proofs::Small::called_fits, crate::proofs::Small::power_most))]
 pub fn qm_power_up(file: &[u8], contents: &mut [u64], flops: &mut [u8]) -> u64
     ensures { Answered (PowersUp file contents flops) result }
 {
@@ -61,7 +61,7 @@ pub fn qm_power_up(file: &[u8], contents: &mut [u64], flops: &mut [u8]) -> u64
 }
 
 // Fills 32n value bytes with the settled signals.
-#[tactic(auto, using(crate::proofs::Small::called_small, crate::proofs::Small::settle_most))]
+#[tactic(auto, using(crate::proofs::Small::called_fits, crate::proofs::Small::settle_most))]
 pub fn qm_settle(
     file: &[u8],
     contents: &[u64],
@@ -75,7 +75,7 @@ pub fn qm_settle(
 }
 
 // Fills 32n value bytes with the signals settled before the edge, and moves the contents and the flip-flops.
-#[tactic(auto, using(crate::proofs::Small::called_small, crate::proofs::Small::settle_most))]
+#[tactic(auto, using(crate::proofs::Small::called_fits, crate::proofs::Small::settle_most))]
 pub fn qm_clock(
     file: &[u8],
     contents: &mut [u64],
@@ -89,7 +89,7 @@ pub fn qm_clock(
 }
 
 // Makes the edits of a list one after another, and recomputes the signals that depend on any of their changes.
-#[tactic(auto, using(crate::proofs::Small::called_small, crate::proofs::Small::edit_most))]
+#[tactic(auto, using(crate::proofs::Small::called_fits, crate::proofs::Small::edit_most))]
 pub fn qm_edit(
     file: &[u8],
     contents: &mut [u64],
@@ -117,7 +117,7 @@ fn read_body(bytes: &[u8], n: usize, m: usize, body: &mut [u8]) -> Result<(), Re
 }
 
 // Reads one slice record, of 127 bytes, of a file of n slices and m outside inputs, into a body of 124 bytes.
-#[tactic(auto, using(crate::proofs::Small::answer_small, crate::proofs::Small::read_body_most))]
+#[tactic(auto, using(crate::proofs::Small::answer_fits, crate::proofs::Small::read_body_most))]
 pub fn qm_read_record(bytes: &[u8], n: usize, m: usize, body: &mut [u8]) -> u64
     ensures { RecordRead bytes.now n m body.old body.new result }
 {
@@ -136,7 +136,7 @@ fn write_body(body: &[u8], n: usize, m: usize, part: &mut [u8]) -> Result<(), Re
 }
 
 // Writes the record with a body of 124 bytes into the first 127 bytes of a part of a file of n slices and m outside inputs.
-#[tactic(auto, using(crate::proofs::Small::answer_small, crate::proofs::Small::write_body_most))]
+#[tactic(auto, using(crate::proofs::Small::answer_fits, crate::proofs::Small::write_body_most))]
 pub fn qm_write_record(body: &[u8], n: usize, m: usize, part: &mut [u8]) -> u64
     ensures { RecordWritten body.now n m part.old part.new result }
 {

@@ -18,7 +18,6 @@ use Rattle.rules.proofs.Refusals.{or_else_left, or_else_right, given_none}
 use Rattle.framing.proofs.RecordLaws.{header_tells, size_whole}
 use Rattle.framing.proofs.EndLaws.{end_bytes}
 use Rattle.framing.proofs.PrefixLaws.{slice_stays, slice_cut}
-use Rattle.slicerecord.specs.Record.{Below}
 use Rattle.slicerecord.proofs.Pieces.{piece, join, piece_byte}
 use Rattle.recordcalls.specs.Calls.{record_refusal, read_refusal}
 use Rattle.column.specs.File.{record_start}
@@ -47,13 +46,13 @@ module _ (file : List ℕ) {n m : ℕ} (f : SoundFile file n m) where
   whole = size_whole file f.begins
 
   -- the size record is made of n and m
-  pub size_bytes : Below 256 file → (1 ∷ 2 ∷ 0 ∷ n ∷ m ∷ []) ≡ take (record_length size_tag) (drop 0 file)
+  pub size_bytes : (1 ∷ 2 ∷ 0 ∷ n ∷ m ∷ []) ≡ take (record_length size_tag) (drop 0 file)
   unfolding size_refusal
-  size_bytes b =
+  size_bytes =
       let told = header_tells size_tag file (or_else_left (header_refusal size_tag file) _ f.begins) in
       let t0 : byte_at file 0 ≡ 1 = told.tag in
-      let t1 : byte_at file 1 ≡ 2 = omega (arith, told.told, b 1, b 2) in
-      let t2 : byte_at file 2 ≡ 0 = omega (arith, told.told, b 1, b 2) in
+      let t1 : byte_at file 1 ≡ 2 = omega (arith, told.told) in
+      let t2 : byte_at file 2 ≡ 0 = omega (arith, told.told) in
       let five =
       join file 0 1 4 (piece_byte file 0 (omega (arith, whole)))
       (join file 1 1 3 (piece_byte file 1 (omega (arith, whole)))
@@ -97,12 +96,12 @@ module _ (file : List ℕ) {n m : ℕ} (f : SoundFile file n m) where
       (copied_next file out (take (record_length slice_tag) (drop at file)) (tail ++ more) at (record_length slice_tag) (omega (arith, record_inside file f s l)) size same refl)
 
   -- the size record, put at the front of any buffer of the file's length
-  pub size_next : Below 256 file → (out front : List ℕ) → front ≡ 1 ∷ 2 ∷ 0 ∷ n ∷ m ∷ [] → length out ≡ length file
+  pub size_next : (out front : List ℕ) → front ≡ 1 ∷ 2 ∷ 0 ∷ n ∷ m ∷ [] → length out ≡ length file
       → (length (front ++ drop (record_length size_tag) out) ≡ length file)
       × (take (record_length size_tag) (front ++ drop (record_length size_tag) out) ≡ take (record_length size_tag) file)
-  size_next b out front e size = (
+  size_next out front e size = (
     rw (e, length-drop) (omega (arith, size, whole)),
-    copied_next file out front (drop (record_length size_tag) out) 0 (record_length size_tag) whole size refl (e ∙ size_bytes b),
+    copied_next file out front (drop (record_length size_tag) out) 0 (record_length size_tag) whole size refl (e ∙ size_bytes),
   )
 
   -- the end record, put last, makes it the file

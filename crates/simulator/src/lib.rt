@@ -7,6 +7,7 @@ ghost use Rattle.evaluation.specs.Numbers.{Bits};
 ghost use Rattle.column.specs.Clock.{state_of, state_was, state_left};
 ghost use Rattle.simulator.specs.Running.{SettlePlanned, ClockPlanned, Clocked, Settles, Clocks};
 
+use buffers::Edges;
 use netlist::{SIGNAL_WIRE, SLICE_SIGNALS, WIRE_LIMIT};
 use plan::{PLAN_LIMIT, Plan};
 use slicefile::{Refusal, Size};
@@ -23,12 +24,13 @@ fn settle_planned(
     requires { (length wires.old ≡ wire_count plan.now.n plan.now.m) × Bits wires.old }
     ensures { SettlePlanned plan.now.numbers.now plan.now.n plan.now.m (state_of contents.now flops.now) inputs.now values.old values.new result }
 {
-    let edges = plan.edges();
-    let tested = buffers::settle_refusal(edges, plan.n, plan.m, contents, flops, inputs, values);
+    let edges = Edges {
+        numbers: plan.edges(),
+        n: plan.n,
+    };
+    let tested = edges.settle_refusal(plan.m, contents, flops, inputs, values);
     tested.map_err(|reason| reason.at(0))?;
-    let table = plan.table();
-    let order = plan.order();
-    walks::settle_by(table, plan.n, order, contents, flops, inputs, values, wires);
+    walks::settle_by(&plan.walk(), contents, flops, inputs, values, wires);
     Ok(())
 }
 
@@ -69,9 +71,7 @@ pub fn clock_by(
     requires bits { Bits inputs.now × Bits wires.old }
     ensures { Clocked plan.now.numbers.now plan.now.n (state_was contents flops) (state_left contents flops) inputs.now values.new wires.new }
 {
-    let table = plan.table();
-    let order = plan.order();
-    walks::settle_by(table, plan.n, order, contents, flops, inputs, values, wires);
+    walks::settle_by(&plan.walk(), contents, flops, inputs, values, wires);
     clockedge::move_all(plan.edges(), plan.n, wires, contents, flops);
 }
 
@@ -87,8 +87,11 @@ fn clock_planned(
     requires { (length wires.old ≡ wire_count plan.now.n plan.now.m) × Bits wires.old }
     ensures { ClockPlanned plan.now.numbers.now plan.now.n plan.now.m (state_was contents flops) (state_left contents flops) inputs.now values.old values.new result }
 {
-    let edges = plan.edges();
-    let tested = buffers::settle_refusal(edges, plan.n, plan.m, contents, flops, inputs, values);
+    let edges = Edges {
+        numbers: plan.edges(),
+        n: plan.n,
+    };
+    let tested = edges.settle_refusal(plan.m, contents, flops, inputs, values);
     tested.map_err(|reason| reason.at(0))?;
     clock_by(plan, contents, flops, inputs, values, wires);
     Ok(())

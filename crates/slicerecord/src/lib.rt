@@ -113,6 +113,7 @@ pub fn decode(body: &[u8]) -> Record
 }
 
 // Stores bytes from an offset on: `copy_from_slice`, with the promise in the words that the callers need.
+#[tactic(auto, using(crate::proofs::Stores::sets_part))]
 pub fn put_bytes(out: &mut [u8], at: usize, src: &[u8])
     requires { at + length src.now ≤ length out.old }
     ensures { out.new ≡ sets out.old at src.now }

@@ -29,7 +29,7 @@ pub const MUX_SIGNAL: usize = 20;
 
 pub const MAIN_SIGNAL: usize = 24;
 
-pub const SECOND_SIGNAL: usize = 28;
+pub const SECOND_SIGNAL: usize = MAIN_SIGNAL + 4;
 
 // How far outputs 4 to 11, the MUX outputs and the main flip-flops, stand below their signals.
 const PAST_O6: usize = MUX_SIGNAL - 4;

@@ -28,7 +28,7 @@ pub struct Fed {
     pub reader: Reader,
 }
 
-// What a check says while more bytes may come: a refusal but 1 stays whatever they are.
+// What a check says while more bytes may come: a refusal other than `Cut` stays whatever they are.
 fn early_reply(checked: Verdict) -> Option<Verdict>
     ensures { result ≡ early checked }
 {
@@ -64,7 +64,7 @@ fn hear(bytes: &[u8], passed: usize) -> Reader
     }
 }
 
-// Takes a run into the store of a reader that has given no verdict yet. Of one that finds no room, what does is checked from its start.
+// Takes a run into the store of a reader that has given no verdict yet. Where a run has no room, the part of it that has is stored, and the store is checked from its start.
 fn take_run(reader: Reader, store: &mut [u8], run: &[u8], last: bool) -> Reader
     requires { (length store.old ≡ file_limit) × (foreign reader ≡ false) }
     ensures { Takes reader store.old run.now last result store.new }

@@ -2,7 +2,7 @@
 use Rattle.std.specs.Prelude.{ℕ, ◌≡◌}
 use Rattle.netlist.specs.declared.Gate.{Gate}
 use Rattle.netlist.specs.Table.{signal_count, gate_of}
-use Rattle.toposort.specs.declared.Gates.{Gates}
+use Rattle.netlist.specs.declared.Gates.{Gates}
 use Rattle.toposort.specs.declared.Searcher.{Searcher}
 use Rattle.toposort.specs.Search.{Search, search_of}
 use Rattle.toposort.specs.Components.{Components, Moved}

@@ -10,8 +10,9 @@ ghost use Rattle.toposort.specs.Reading.{as_read, read_at, HasPlace, head_of, pl
 ghost use Rattle.toposort.specs.Answer.{OrderOrLoop};
 ghost use Rattle.toposort.specs.Search.{with_best, cut_to, first_scan, raised, finished};
 ghost use Rattle.toposort.specs.Components.{Unseen, Fresh, FlopsListed, AtPlaces, IsTop, TopReady, Above, Components, Wants, Least};
+ghost use Rattle.toposort.specs.Searcher.{gates_in, signals_in, buffers_in, SameOrder, Sound, Stepped};
 
-use netlist::{FIRST_FLOP, ROW, SIGNAL_LIMIT, SIGNAL_WIRE, SLICE_SIGNALS};
+use netlist::{FIRST_FLOP, Gates, ROW, SIGNAL_LIMIT, SIGNAL_WIRE, SLICE_SIGNALS};
 
 // The mark of an open signal whose six reads are done, and the mark of a done one.
 const LAST_MARK: u8 = 7;
@@ -53,39 +54,28 @@ fn place_count(n: usize, head: usize) -> usize
     }
 }
 
-// The gate table of n slices.
-#[derive(Clone, Copy)]
-struct Gates<'a> {
-    table: &'a [u16],
-    n: usize,
-    ghost is_table: { IsTable n table.now },
+// The signal that x reads at place i, which its gate has, from its sixth source down to its first.
+#[tactic(auto, using(crate::proofs::Reading::counted_source))]
+fn read_at(gates: &Gates, x: usize, i: usize) -> Option<usize>
+    requires { (x < signals_in gates.now) × (i < 6) × HasPlace (gates_in gates.now) x i }
+    ensures { result ≡ read_at (gates_in gates.now) x i }
+{
+    read_of(gates.n, usize::from(gates.table[ROW * x + (6 - i)]))
 }
 
-impl Gates<'_> {
-    ghost use Rattle.toposort.specs.Searcher.{gates_in, signals_in};
-
-    // The signal that x reads at place i, which its gate has, from its sixth source down to its first.
-    #[tactic(auto, using(crate::proofs::Reading::counted_source))]
-    fn read_at(&self, x: usize, i: usize) -> Option<usize>
-        requires { (x < signals_in self.now) × (i < 6) × HasPlace (gates_in self.now) x i }
-        ensures { result ≡ read_at (gates_in self.now) x i }
-    {
-        read_of(self.n, usize::from(self.table[ROW * x + (6 - i)]))
-    }
-
-    // The mark of signal x when it is opened, past the places that its gate doesn't have.
-    #[tactic(auto, using(crate::proofs::Reading::places_most))]
-    fn first_mark(&self, x: usize) -> u8
-        requires { x < signals_in self.now }
-        ensures { result ≡ first_mark self.now.n (head_of self.now.table.now x) }
-    {
-        let head = usize::from(self.table[ROW * x]);
-        LAST_MARK - place_count(self.n, head) as u8
-    }
+// The mark of signal x when it is opened, past the places that its gate doesn't have.
+#[tactic(auto, using(crate::proofs::Reading::places_most))]
+fn first_mark(gates: &Gates, x: usize) -> u8
+    requires { x < signals_in gates.now }
+    ensures { result ≡ first_mark gates.now.n (head_of gates.now.table.now x) }
+{
+    let head = usize::from(gates.table[ROW * x]);
+    LAST_MARK - place_count(gates.n, head) as u8
 }
 
 // Where the search stands: the next root to try, how many signals are open, how many are on the stack, how many components
-// the stack has, how many signals are done, and the smallest signal known to be on a loop (the number of signals where none is).
+// the stack has, how many signals are done, and the smallest signal known to be on a loop (the number of signals where none is,
+// so that the smaller of two is their `min`).
 #[derive(Clone, Copy)]
 struct Scan {
     next: usize,
@@ -120,8 +110,6 @@ struct Searcher<'a> {
 }
 
 impl Searcher<'_> {
-    ghost use Rattle.toposort.specs.Searcher.{gates_in, signals_in, buffers_in, SameOrder, Sound, Stepped};
-
     // What the open signal on top asks for. After its sixth read it is done, and where its component begins with it, so is that.
     // A read that is nothing, or in a closed component, raises the mark; an unseen signal is opened; one on the stack before the
     // last component shows that the last two components are one; one in the last component shows that the top is on a loop.
@@ -139,7 +127,7 @@ impl Searcher<'_> {
             }
             return Turn::Leave;
         }
-        match gates.read_at(top, usize::from(mark) - 1) {
+        match read_at(gates, top, usize::from(mark) - 1) {
             None => Turn::Raise,
             Some(y) => {
                 if self.marks[y] == 0 {
@@ -167,7 +155,7 @@ impl Searcher<'_> {
         requires above { Above (gates_in gates.now) self.old.stack.now self.old.scan y }
         ensures { Stepped gates.now self.old self.new }
     {
-        self.marks[y] = gates.first_mark(y);
+        self.marks[y] = first_mark(gates, y);
         self.pos[y] = self.scan.len as u16;
         self.stack[self.scan.len] = y as u16;
         self.heads[self.scan.count] = self.scan.len as u16;
@@ -242,6 +230,7 @@ impl Searcher<'_> {
         ensures order { FlopsFirst gates.now.n self.new.order.now × SameOrder self.old self.new }
     {
         list_flops(gates.n, self.marks, self.order);
+        // A step may leave `next` as it is, so no index is counted.
         while self.scan.next < SLICE_SIGNALS * gates.n {
             self.scan_step(gates);
         }

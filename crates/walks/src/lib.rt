@@ -6,13 +6,23 @@ ghost use Rattle.std.specs.Prelude.{◌≡◌, ◌+◌, ◌*◌, ◌≤◌, ◌<
 ghost use Rattle.lent.specs.Put.{Put};
 ghost use Rattle.netlist.specs.Rule.{bit_at};
 ghost use Rattle.netlist.specs.Settle.{is_marked};
-ghost use Rattle.netlist.specs.Table.{row_length, signal_limit, signal_count, input_room, input_wire, wire_count, source_of, IsTable, gate_of};
+ghost use Rattle.netlist.specs.Table.{row_length, signal_limit, signal_count, input_room, input_wire, wire_count, source_of, gate_of};
 ghost use Rattle.netlist.specs.Wires.{IsWires, values_on, inputs_on};
 ghost use Rattle.evaluation.specs.Numbers.{Bits};
 ghost use Rattle.walks.specs.Marked.{NumbersFit, source_reached, any_reached, gate_reached};
 ghost use Rattle.walks.specs.Walks.{Walkable, StillWires, FlopsOn, SettledOn, SettledBy, EditedOn, EditedBy};
+ghost use Rattle.walks.specs.Props.{Walkable-prop};
 
-use netlist::{FIRST_FLOP, ROW, SIGNAL_LIMIT, SIGNAL_WIRE, SLICE_SIGNALS, WIRE_LIMIT};
+use netlist::{FIRST_FLOP, Gates, ROW, SIGNAL_LIMIT, SIGNAL_WIRE, SLICE_SIGNALS, WIRE_LIMIT};
+
+// The gate table of n slices and m outside inputs, and a topological order of its signals, the flip-flops' first.
+#[derive(Clone, Copy)]
+pub struct Walk<'a> {
+    pub gates: Gates<'a>,
+    pub m: usize,
+    pub order: &'a [u16],
+    pub ghost walkable: { Walkable gates.n m gates.table.now order.now } by { Walkable-prop gates.n m gates.table.now order.now },
+}
 
 // Lays the two constants and the outside inputs on the wires of n slices.
 fn lay_inputs(n: usize, inputs: &[u8], wires: &mut [u8])
@@ -62,44 +72,35 @@ fn spread_flops(flops: &[u8], n: usize, m: usize, wires: &mut [u8])
 }
 
 // Settles the signals on the wires: the flip-flops first, then each in the order's turn is set to its rule.
-fn settle_wires(
-    table: &[u16],
-    n: usize,
-    m: usize,
-    order: &[u16],
-    contents: &[u64],
-    flops: &[u8],
-    wires: &mut [u8],
-)
-    requires { Walkable n m table.now order.now × (length flops.now ≡ n) × IsWires n m wires.old }
-    ensures { SettledOn n m table.now contents.now flops.now wires.old wires.new }
+fn settle_wires(walk: &Walk, contents: &[u64], flops: &[u8], wires: &mut [u8])
+    requires { (length flops.now ≡ walk.now.gates.n) × IsWires walk.now.gates.n walk.now.m wires.old }
+    ensures { SettledOn walk.now.gates.n walk.now.m walk.now.gates.table.now contents.now flops.now wires.old wires.new }
 {
-    spread_flops(flops, n, m, wires);
-    for &signal in &order[8 * n..] {
+    let Walk { gates, m, order } = *walk;
+    spread_flops(flops, gates.n, m, wires);
+    for &signal in &order[8 * gates.n..] {
         let x = usize::from(signal);
-        let value = evaluation::gate_value(table, n, x, contents, wires);
+        let value = evaluation::gate_value(&gates, x, contents, wires);
         wires[SIGNAL_WIRE + x] = value;
     }
 }
 
-// Fills the value table with the settled signals of the gate table of n slices, and leaves it on the wires, with the inputs.
+// Fills the value table with the settled signals, and leaves it on the wires, with the inputs.
 pub fn settle_by(
-    table: &[u16],
-    n: usize,
-    order: &[u16],
+    walk: &Walk,
     contents: &[u64],
     flops: &[u8],
     inputs: &[u8],
     values: &mut [u8],
     wires: &mut [u8],
 )
-    requires walkable { Walkable n (length inputs.now) table.now order.now × (length flops.now ≡ n) × (length values.old ≡ signal_count n) }
-    requires wires_len { (length wires.old ≡ wire_count n (length inputs.now)) × Bits inputs.now × Bits wires.old }
-    ensures { SettledBy n table.now contents.now flops.now inputs.now values.new wires.new }
+    requires inputs_len { (length inputs.now ≡ walk.now.m) × (length flops.now ≡ walk.now.gates.n) × (length values.old ≡ signal_count walk.now.gates.n) }
+    requires wires_len { (length wires.old ≡ wire_count walk.now.gates.n walk.now.m) × Bits inputs.now × Bits wires.old }
+    ensures { SettledBy walk.now.gates.n walk.now.gates.table.now contents.now flops.now inputs.now values.new wires.new }
 {
-    let m = inputs.len();
+    let n = walk.gates.n;
     lay_inputs(n, inputs, wires);
-    settle_wires(table, n, m, order, contents, flops, wires);
+    settle_wires(walk, contents, flops, wires);
     read_values(n, wires, values);
 }
 
@@ -125,46 +126,41 @@ fn number_reached(n: usize, number: u16, changed: &[u8], marks: &[u8]) -> bool
     read | driven
 }
 
-// Whether the source of one of the k numbers from place i is.
-fn any_reached(n: usize, numbers: &[u16], i: usize, k: usize, changed: &[u8], marks: &[u8]) -> bool
-    requires n_bound { (signal_count n ≤ signal_limit) × (length changed.now ≡ input_room) × (length marks.now ≡ signal_limit) }
-    requires k_in_bounds { (i + k ≤ length numbers.now) × NumbersFit n numbers.now i k }
-    ensures { result ≡ any_reached n (source_reached changed.now marks.now) numbers.now i k }
+// Whether the source of one of the k numbers from place i of a gate table is.
+fn any_reached(gates: &Gates, i: usize, k: usize, changed: &[u8], marks: &[u8]) -> bool
+    requires changed_len { (length changed.now ≡ input_room) × (length marks.now ≡ signal_limit) }
+    requires k_in_bounds { (i + k ≤ length gates.now.table.now) × NumbersFit gates.now.n gates.now.table.now i k }
+    ensures { result ≡ any_reached gates.now.n (source_reached changed.now marks.now) gates.now.table.now i k }
 {
+    let Gates { table, n } = *gates;
     let mut found = false;
-    for &number in &numbers[i..i + k] {
+    for &number in &table[i..i + k] {
         found |= number_reached(n, number, changed, marks);
     }
     found
 }
 
 // Whether the change reaches signal x's gate: it touches a marked input or table, or reads a marked signal.
-fn gate_reached(
-    table: &[u16],
-    n: usize,
-    x: usize,
-    changed: &[u8],
-    edited: &[u8],
-    marks: &[u8],
-) -> bool
-    requires table { IsTable n table.now × (x < signal_count n) × NumbersFit n table.now (row_length * x + 1) 6 }
+fn gate_reached(gates: &Gates, x: usize, changed: &[u8], edited: &[u8], marks: &[u8]) -> bool
+    requires table { (x < signal_count gates.now.n) × NumbersFit gates.now.n gates.now.table.now (row_length * x + 1) 6 }
     requires changed_len { (length changed.now ≡ input_room) × (length marks.now ≡ signal_limit) }
-    ensures { result ≡ gate_reached changed.now edited.now marks.now (gate_of table.now n x) }
+    ensures { result ≡ gate_reached changed.now edited.now marks.now (gate_of gates.now.table.now gates.now.n x) }
 {
+    let Gates { table, n } = *gates;
     let at = ROW * x;
     let head = usize::from(table[at]);
     if head < 4 * n {
         let contents = is_marked(edited, head);
-        return any_reached(n, table, at + 1, 6, changed, marks) | contents;
+        return any_reached(gates, at + 1, 6, changed, marks) | contents;
     }
     if head < 8 * n {
         return is_marked(edited, head - 4 * n);
     }
     if head == 8 * n {
-        return any_reached(n, table, at + 1, 3, changed, marks);
+        return any_reached(gates, at + 1, 3, changed, marks);
     }
     if head == 8 * n + 1 {
-        return any_reached(n, table, at + 1, 2, changed, marks);
+        return any_reached(gates, at + 1, 2, changed, marks);
     }
     if head == 8 * n + 2 {
         return number_reached(n, table[at + 1], changed, marks);
@@ -173,24 +169,16 @@ fn gate_reached(
 }
 
 // Recomputes on the wires what depends on a change of the marked inputs and tables, in the order's turn behind the flip-flops, and nothing else.
-fn edit_wires(
-    table: &[u16],
-    n: usize,
-    m: usize,
-    order: &[u16],
-    contents: &[u64],
-    changed: &[u8],
-    edited: &[u8],
-    wires: &mut [u8],
-)
-    requires { Walkable n m table.now order.now × IsWires n m wires.old × (m ≤ input_room) × (length changed.now ≡ input_room) }
-    ensures { EditedOn n m table.now contents.now changed.now edited.now wires.old wires.new }
+fn edit_wires(walk: &Walk, contents: &[u64], changed: &[u8], edited: &[u8], wires: &mut [u8])
+    requires { IsWires walk.now.gates.n walk.now.m wires.old × (walk.now.m ≤ input_room) × (length changed.now ≡ input_room) }
+    ensures { EditedOn walk.now.gates.n walk.now.m walk.now.gates.table.now contents.now changed.now edited.now wires.old wires.new }
 {
+    let Walk { gates, order, .. } = *walk;
     let mut marks = [0u8; SIGNAL_LIMIT];
-    for &signal in &order[8 * n..] {
+    for &signal in &order[8 * gates.n..] {
         let x = usize::from(signal);
-        if gate_reached(table, n, x, changed, edited, &marks) {
-            let fresh = evaluation::gate_value(table, n, x, contents, wires);
+        if gate_reached(&gates, x, changed, edited, &marks) {
+            let fresh = evaluation::gate_value(&gates, x, contents, wires);
             marks[x] = 1;
             wires[SIGNAL_WIRE + x] = fresh;
         } else {
@@ -199,28 +187,26 @@ fn edit_wires(
     }
 }
 
-// Recomputes what depends on a change of the marked inputs and tables of the gate table of n slices, and nothing else. The inputs and the contents are
-// those after the change.
+// Recomputes what depends on a change of the marked inputs and tables, and nothing else. The inputs and the contents are those after the change.
 pub fn edit_by(
-    table: &[u16],
-    n: usize,
-    order: &[u16],
+    walk: &Walk,
     contents: &[u64],
     inputs: &[u8],
     values: &mut [u8],
     changed: &[u8],
     edited: &[u8],
 )
-    requires walkable { Walkable n (length inputs.now) table.now order.now × (length values.old ≡ signal_count n) }
-    requires inputs_len_bound { (length inputs.now ≤ input_room) × (length changed.now ≡ input_room) × Bits inputs.now × Bits values.old }
-    ensures { EditedBy n table.now contents.now inputs.now changed.now edited.now values.old values.new }
+    requires inputs_len { (length inputs.now ≡ walk.now.m) × (length values.old ≡ signal_count walk.now.gates.n) }
+    requires m_bound { (walk.now.m ≤ input_room) × (length changed.now ≡ input_room) × Bits inputs.now × Bits values.old }
+    ensures { EditedBy walk.now.gates.n walk.now.gates.table.now contents.now inputs.now changed.now edited.now values.old values.new }
 {
-    let m = inputs.len();
+    let n = walk.gates.n;
+    let m = walk.m;
     let count = SIGNAL_WIRE + SLICE_SIGNALS * n + m;
     let mut room = [0u8; WIRE_LIMIT];
     let wires = &mut room[..count];
     lay_inputs(n, inputs, wires);
     lay_values(n, m, values, wires);
-    edit_wires(table, n, m, order, contents, changed, edited, wires);
+    edit_wires(walk, contents, changed, edited, wires);
     read_values(n, wires, values);
 }

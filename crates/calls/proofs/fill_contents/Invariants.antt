@@ -11,4 +11,4 @@ abbrev pub word : List ℕ → ℕ → ℕ
 word file t = contents_word (slice_body file (t / 4)) (t % 4)
 
 abbrev pub invariant-loop-t : goal.invariant-loop-t
-invariant-loop-t l = Filled (word l.file) l.t l.contents
+invariant-loop-t l = Filled (word l.sound.file.now) l.t l.contents

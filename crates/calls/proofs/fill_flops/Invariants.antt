@@ -11,4 +11,4 @@ abbrev pub bits : List ℕ → ℕ → ℕ
 bits file s = power_up_bits (slice_body file s)
 
 abbrev pub invariant-loop-s : goal.invariant-loop-s
-invariant-loop-s l = Filled (bits l.file) l.s l.flops
+invariant-loop-s l = Filled (bits l.sound.file.now) l.s l.flops

@@ -8,18 +8,18 @@ pub returns-then-enable-ne1 : goal.returns-then-enable-ne1
 unfolding word_by
 returns-then-enable-ne1 c = grind (arith, nat_tests)
 
-pub returns-in-0 : goal.returns-in-0
+pub returns-in-Logic : goal.returns-in-Logic
 unfolding word_by written_by
-returns-in-0 c = grind (arith, nat_tests)
+returns-in-Logic c = grind (arith, nat_tests)
 
-pub returns-in-1 : goal.returns-in-1
+pub returns-in-Memory : goal.returns-in-Memory
 unfolding word_by written_by
-returns-in-1 c = grind (arith, nat_tests)
+returns-in-Memory c = grind (arith, nat_tests)
 
-pub returns-in-2 : goal.returns-in-2
+pub returns-in-Shift : goal.returns-in-Shift
 unfolding word_by written_by
-returns-in-2 c = grind (arith, nat_tests)
+returns-in-Shift c = grind (arith, nat_tests)
 
-pub returns-in_default : goal.returns-in_default
+pub returns-in-ShiftFromNext : goal.returns-in-ShiftFromNext
 unfolding word_by written_by
-returns-in_default c = grind (arith, nat_tests)
+returns-in-ShiftFromNext c = grind (arith, nat_tests)

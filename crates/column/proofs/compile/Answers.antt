@@ -26,24 +26,27 @@ module _ (file : List ℕ) {n m : ℕ} (sound : IsSound file n m) (table : List 
 
 pub order_or_loop-requires : goal.order_or_loop-requires
 order_or_loop-requires c =
-    let f = sound_file c.args.file.now c.requires.sound in
+    let file = c.args.sound.now.file.now in
+    let h = c.args.sound.now.checked in
+    let f = sound_file file h in
     let table = c.lower.new.table in
     record {
       table = (
-        (omega (arith, f.slices_fit), c.lower.auto.table ∙ c.requires.table_len.0),
-        (lowered_range c.args.file.now f table c.lower.ensures).stored,
-        c.requires.table_len.1,
+        (omega (arith, f.slices_fit), c.lower.auto.table ∙ c.requires.0),
+        (lowered_range file f table c.lower.ensures).stored,
+        c.requires.1,
       );
-      well_formed = closed c.args.file.now c.requires.sound table c.lower.ensures;
+      well_formed = closed file h table c.lower.ensures;
     }
 
 pub returns : goal.returns
 returns c =
-    let a = c.args in
+    let file = c.args.sound.now.file.now in
+    let n = c.args.sound.now.n in
     let table = c.lower.new.table in
     let o = c.order_or_loop in
-    let h = c.requires.sound in
+    let h = c.args.sound.now.checked in
     record {
       lowered = c.lower.ensures;
-      sorted = order_or_loop_agree (gate_of table a.n) (gate_at a.file.now) a.n (agree a.file.now h table c.lower.ensures) (closed a.file.now h table c.lower.ensures) o.new.order o.result o.ensures;
+      sorted = order_or_loop_agree (gate_of table n) (gate_at file) n (agree file h table c.lower.ensures) (closed file h table c.lower.ensures) o.new.order o.result o.ensures;
     }

@@ -28,45 +28,45 @@ signals : {n : ℕ} (order : List ℕ) → n ≤ slice_limit → length order �
 signals order l e = length-take-le _ _ (omega arith)
 
 pub overflow_mul-numbers : goal.overflow_mul-numbers
-overflow_mul-numbers c = omega (arith, few _ c.requires.sound)
+overflow_mul-numbers c = omega (arith, few _ c.args.sound.now.checked)
 
 pub overflow_mul-signals : goal.overflow_mul-signals
-overflow_mul-signals c = omega (arith, few _ c.requires.sound)
+overflow_mul-signals c = omega (arith, few _ c.args.sound.now.checked)
 
 pub slice_bounds-compile-end : goal.slice_bounds-compile-end
-slice_bounds-compile-end c = omega (arith, few _ c.requires.sound)
+slice_bounds-compile-end c = omega (arith, few _ c.args.sound.now.checked)
 
 pub slice_bounds-compile-end-2 : goal.slice_bounds-compile-end-2
-slice_bounds-compile-end-2 c = sym (numbers _ (few _ c.requires.sound) c.requires.table_len.0)
+slice_bounds-compile-end-2 c = sym (numbers _ (few _ c.args.sound.now.checked) c.requires.0)
 
 pub slice_bounds-compile-end-3 : goal.slice_bounds-compile-end-3
-slice_bounds-compile-end-3 c = omega (arith, few _ c.requires.sound)
+slice_bounds-compile-end-3 c = omega (arith, few _ c.args.sound.now.checked)
 
 pub slice_bounds-compile-end-4 : goal.slice_bounds-compile-end-4
-slice_bounds-compile-end-4 c = sym (signals _ (few _ c.requires.sound) c.requires.table_len.1)
+slice_bounds-compile-end-4 c = sym (signals _ (few _ c.args.sound.now.checked) c.requires.1)
 
-pub compile-requires-clause-table_len : goal.compile-requires-clause-table_len
-compile-requires-clause-table_len c =
-    let l = few _ c.requires.sound in
-    (numbers _ l c.requires.table_len.0, signals _ l c.requires.table_len.1)
+pub compile-requires : goal.compile-requires
+compile-requires c =
+    let l = few _ c.args.sound.now.checked in
+    (numbers _ l c.requires.0, signals _ l c.requires.1)
 
 pub returns-in-Err : goal.returns-in-Err
 returns-in-Err c =
-    let w = subst (OrderOrLoop (gate_at c.args.file.now) c.args.n c.compile.new.order) c.in-Err.is c.compile.ensures.sorted in
-    rw c.at.ensures (loop c.requires.sound w.0 w.1 w.2)
+    let w = subst (OrderOrLoop (gate_at c.args.sound.now.file.now) c.args.sound.now.n c.compile.new.order) c.in-Err.is c.compile.ensures.sorted in
+    rw c.at.ensures (loop c.args.sound.now.checked w.0 w.1 w.2)
 
 pub returns-in-Ok : goal.returns-in-Ok
 returns-in-Ok c =
-    let o = subst (OrderOrLoop (gate_at c.args.file.now) c.args.n c.compile.new.order) c.in-Ok.is c.compile.ensures.sorted in
-    let file = c.args.file.now in
+    let o = subst (OrderOrLoop (gate_at c.args.sound.now.file.now) c.args.sound.now.n c.compile.new.order) c.in-Ok.is c.compile.ensures.sorted in
+    let file = c.args.sound.now.file.now in
     let table = c.compile.new.table in
     let order = c.compile.new.order in
-    let l = few _ c.requires.sound in
-    let sized = c.compile.auto.table ∙ numbers _ l c.requires.table_len.0 in
-    let listed = c.compile.auto.order ∙ signals _ l c.requires.table_len.1 in
-    let f = sound_file file c.requires.sound in
+    let l = few _ c.args.sound.now.checked in
+    let sized = c.compile.auto.table ∙ numbers _ l c.requires.0 in
+    let listed = c.compile.auto.order ∙ signals _ l c.requires.1 in
+    let f = sound_file file c.args.sound.now.checked in
     record {
-      verdict = accepted c.requires.sound (loop_free o.0);
+      verdict = accepted c.args.sound.now.checked (loop_free o.0);
       table = rw (take_at table _ _ sized) (omega (arith, l), sized);
       lowered = rw (take_at table _ _ sized) (lowered_agree file f table c.compile.ensures.lowered);
       ranges = rw (take_at table _ _ sized) (lowered_range file f table c.compile.ensures.lowered);

@@ -7,4 +7,4 @@ use Rattle.column.specs.Compile.{LoweredTo}
 use Rattle.column.proofs.lower_slice.Given as goal
 
 abbrev pub invariant-loop-k : goal.invariant-loop-k
-invariant-loop-k l = (length l.table ≡ table_length l.n) × LoweredTo l.file l.n l.table (slice_signals * l.s + l.k)
+invariant-loop-k l = (length l.table ≡ table_length l.sound.n) × LoweredTo l.sound.file.now l.sound.n l.table (slice_signals * l.s + l.k)

@@ -5,4 +5,4 @@ use Rattle.edits.specs.Edits.{any_bad}
 use Rattle.edits.proofs.bad_edits.Given as goal
 
 abbrev pub invariant-loop-edit : goal.invariant-loop-edit
-invariant-loop-edit l = l.found ≡ any_bad (bad_table_by l.edges l.n) l.m (take l.edit-index l.edits)
+invariant-loop-edit l = l.found ≡ any_bad (bad_table_by l.edges.numbers.now l.edges.n) l.m (take l.edit-index l.edits)

@@ -19,7 +19,7 @@ pub returns-then-head-n : goal.returns-then-head-n
 returns-then-head-n c flops =
     let a = c.args in
     rw (c.contents_bit.ensures, c.from-head.ensures, c.number_on-k.ensures.0)
-    (sym (rule_lut a.contents.now flops a.wires.now a.table.now a.n a.x (omega arith)))
+    (sym (rule_lut a.contents.now flops a.wires.now a.gates.now.table.now a.gates.now.n a.x (omega arith)))
 
 pub wire-first-requires : goal.wire-first-requires
 wire-first-requires c = (is_wire _ _ _ 1 c.requires.are_wires.0 (omega arith) (omega arith), c.requires.are_wires.1)
@@ -33,22 +33,22 @@ wire-third-requires c = (is_wire _ _ _ 3 c.requires.are_wires.0 (omega arith) (o
 pub returns-then-head-n-2 : goal.returns-then-head-n-2
 returns-then-head-n-2 c flops =
     let a = c.args in
-    sym (rule_zero a.contents.now flops a.wires.now a.table.now a.n a.x (omega arith) (omega arith))
+    sym (rule_zero a.contents.now flops a.wires.now a.gates.now.table.now a.gates.now.n a.x (omega arith) (omega arith))
 
 pub returns-then-head-n-3 : goal.returns-then-head-n-3
 returns-then-head-n-3 c flops =
     let a = c.args in
     rw (c.choose-chosen.ensures, c.wire-first.ensures.0, c.wire-second.ensures.0, c.wire-third.ensures.0)
-    (sym (rule_select a.contents.now flops a.wires.now a.table.now a.n a.x (omega arith) (omega arith) (omega arith)))
+    (sym (rule_select a.contents.now flops a.wires.now a.gates.now.table.now a.gates.now.n a.x (omega arith) (omega arith) (omega arith)))
 
 pub returns-then-head-n-4 : goal.returns-then-head-n-4
 returns-then-head-n-4 c flops =
     let a = c.args in
     rw (c.wire-first.ensures.0, c.wire-second.ensures.0)
-    (sym (rule_xor a.contents.now flops a.wires.now a.table.now a.n a.x (omega arith) (omega arith) (omega arith) (omega arith)))
+    (sym (rule_xor a.contents.now flops a.wires.now a.gates.now.table.now a.gates.now.n a.x (omega arith) (omega arith) (omega arith) (omega arith)))
 
 pub returns : goal.returns
 returns c flops =
     let a = c.args in
     rw c.wire-first.ensures.0
-    (sym (rule_same a.contents.now flops a.wires.now a.table.now a.n a.x (omega arith) (omega arith) (omega arith) (omega arith) c.requires.table.2))
+    (sym (rule_same a.contents.now flops a.wires.now a.gates.now.table.now a.gates.now.n a.x (omega arith) (omega arith) (omega arith) (omega arith) c.requires.table.1))

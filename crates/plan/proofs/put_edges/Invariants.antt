@@ -6,4 +6,4 @@ use Rattle.plan.specs.Plan.{edges_place, edges_of}
 use Rattle.plan.proofs.put_edges.Given as goal
 
 abbrev pub invariant-loop-s : goal.invariant-loop-s
-invariant-loop-s l = Put (edges_of l.file l.n l.m) (edges_place l.n) (edge_length * l.s) l.initial.plan l.plan
+invariant-loop-s l = Put (edges_of l.sound.file.now l.sound.n l.sound.m) (edges_place l.sound.n) (edge_length * l.s) l.initial.plan l.plan

@@ -1,4 +1,4 @@
-use mathlib.Core.Path.{◌≡◌, ◌∙◌, refl, sym}
+use mathlib.Core.Path.{◌≡◌, ◌∙◌, sym}
 use Prim.Native.Nat.{ℕ, ◌+◌, ◌-◌, ◌*◌}
 use native.Mathlib.Omega.{arith}
 use native.Mathlib.Nat.{add-sub_cancel_left}
@@ -15,13 +15,13 @@ abbrev place : ℕ → ℕ
 place s = record_length size_tag + record_length slice_tag * s
 
 pub loop-s-init : goal.loop-s-init
-loop-s-init c = size_next _ (sound_file _ c.requires.0) (λ i. (c.type_inv.file i).fits) c.args.out.now _ c.copy_from_slice.ensures.after c.requires.1
+loop-s-init c = size_next _ (sound_file _ c.args.sound.now.checked) c.args.out.now _ c.copy_from_slice.ensures.after c.requires
 
 pub put_slice-requires : goal.put_slice-requires
 put_slice-requires c =
     let at = c.loop-s in (
-      rw (add-sub_cancel_left, ← start_at c.args.file.now at.s) (record_read _ (sound_file _ c.requires.0) at.s c.loop-s-test.true),
-      simp (length-take, length-drop) (omega (arith, sound_length c.args.file.now c.requires.0, at.invariant.0)),
+      rw (add-sub_cancel_left, ← start_at c.args.sound.now.file.now at.s) (record_read _ (sound_file _ c.args.sound.now.checked) at.s c.loop-s-test.true),
+      simp (length-take, length-drop) (omega (arith, sound_length c.args.sound.now.file.now c.args.sound.now.checked, at.invariant.0)),
     )
 
 pub loop-s-preserved : goal.loop-s-preserved
@@ -29,11 +29,11 @@ loop-s-preserved c =
     let at = c.loop-s in
     let next : place (at.s + 1) ≡ place at.s + record_length slice_tag = omega arith in (
       same_len_mid (place at.s) (length at.out - place at.s) at.out c.put_slice.new.part c.put_slice.auto.part ∙ at.invariant.0,
-      rw c.put_slice.ensures (slice_next _ (sound_file _ c.requires.0) at.out _ _ at.s _ _ c.loop-s-test.true (sym (start_at _ at.s)) next at.invariant.0 at.invariant.1),
+      rw c.put_slice.ensures (slice_next _ (sound_file _ c.args.sound.now.checked) at.out _ _ at.s _ _ c.loop-s-test.true (sym (start_at _ at.s)) next at.invariant.0 at.invariant.1),
     )
 
 pub returns : goal.returns
 returns c =
     let at = c.loop-s in
-    let all : at.s ≡ c.args.n = omega arith in
-    end_next _ (sound_file _ c.requires.0) at.out _ (place c.args.n) (sym (start_at _ c.args.n)) at.invariant.0 (rw all at at.invariant.1) c.copy_from_slice-2.ensures.after
+    let all : at.s ≡ c.args.sound.now.n = omega arith in
+    end_next _ (sound_file _ c.args.sound.now.checked) at.out _ (place c.args.sound.now.n) (sym (start_at _ c.args.sound.now.n)) at.invariant.0 (rw all at at.invariant.1) c.copy_from_slice-2.ensures.after

@@ -1,10 +1,8 @@
 -- `simulator::settle_planned` meets its contract. Assumes nothing.
-use mathlib.Core.Path.{◌≡◌, ◌∙◌, refl, sym, ap}
+use mathlib.Core.Path.{◌≡◌, ◌∙◌, refl, sym}
 use borrow.Author.Rules.{rules}
 use Rattle.std.specs.Prelude.{Ok}
-use Rattle.netlist.specs.Table.{wire_count}
 use Rattle.buffers.proofs.Passed.{settle_passed}
-use Rattle.plan.proofs.Plans.{parts_walk}
 use Rattle.std.proofs.lemmas.Result.{err_from_is_err_and}
 use Rattle.calls.specs.Calls.{turned_down, carried_out}
 use Rattle.calls.proofs.Calls.{told}
@@ -14,21 +12,19 @@ pub returns-in_err-map_err : goal.returns-in_err-map_err
 returns-in_err-map_err c =
     let t = told c.settle_refusal-tested.result c.map_err.result c.map_err.ensures.cases (λ r d p. search rules) c.in_err-map_err.was in
     let p = err_from_is_err_and c.from_residual.result c.from_residual.ensures.1 in
-    rw (p.1, p.2, t.2) (turned_down (sym (rw c.edges-edges.ensures at c.settle_refusal-tested.ensures) ∙ t.1) refl)
+    rw (p.1, p.2, t.2) (turned_down (sym (rw c.edges.ensures at c.settle_refusal-tested.ensures) ∙ t.1) refl)
 
 pub settle_by-requires : goal.settle_by-requires
 settle_by-requires c =
-    let e = rw c.edges-edges.ensures at c.settle_refusal-tested.ensures in
+    let e = rw c.edges.ensures at c.settle_refusal-tested.ensures in
     let none : c.settle_refusal-tested.result ≡ Ok tt = search rules in
     let p = settle_passed _ _ _ _ _ _ (sym e ∙ none) in
     let l = p.0 in
-    record {
-      walkable = (parts_walk c.args.plan.now.runnable c.table-table.ensures c.order-order.ensures l.inputs, l.flops, l.values);
-      wires_len = (c.requires.0 ∙ ap (wire_count c.args.plan.now.n) (sym l.inputs), p.1, c.requires.1);
-    }
+    let w = c.walk.ensures in
+    rw (w.gates.1, w.order.1) (record { inputs_len = (l.inputs, l.flops, l.values); wires_len = (c.requires.0, p.1, c.requires.1) })
 
 pub returns : goal.returns
 returns c =
-    let e = rw c.edges-edges.ensures at c.settle_refusal-tested.ensures in
+    let e = rw c.edges.ensures at c.settle_refusal-tested.ensures in
     let none : c.settle_refusal-tested.result ≡ Ok tt = search rules in
-    carried_out (sym e ∙ none) (rw c.table-table.ensures at c.settle_by.ensures.settled)
+    carried_out (sym e ∙ none) (rw (c.walk.ensures.gates.0, c.walk.ensures.gates.1) at c.settle_by.ensures.settled)

@@ -12,7 +12,7 @@ loop-number-preserved c =
     let a = c.args in
     let l = c.loop-number in
     let within : l.number-index < a.i + a.k - a.i = omega arith in
-    any_more a.n (source_reached a.changed.now a.marks.now) a.numbers.now a.i l.number-index a.k l.found (omega arith)
+    any_more a.gates.now.n (source_reached a.changed.now a.marks.now) a.gates.now.table.now a.i l.number-index a.k l.found (omega arith)
     (rw (get_or-take {A = ℕ} _ _ _ 0 within, get_or-drop) at c.number_reached-found.ensures)
     ∙ l.invariant
 

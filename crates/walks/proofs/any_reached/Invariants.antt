@@ -7,5 +7,5 @@ use Rattle.walks.proofs.any_reached.Given as goal
 
 abbrev pub invariant-loop-number : goal.invariant-loop-number
 invariant-loop-number l =
-    (l.found || any_reached l.n (source_reached l.changed l.marks) l.numbers (l.i + l.number-index) (l.k - l.number-index))
-    ≡ any_reached l.n (source_reached l.changed l.marks) l.numbers l.i l.k
+    (l.found || any_reached l.gates.n (source_reached l.changed l.marks) l.gates.table.now (l.i + l.number-index) (l.k - l.number-index))
+    ≡ any_reached l.gates.n (source_reached l.changed l.marks) l.gates.table.now l.i l.k

@@ -13,7 +13,7 @@ front_bits : (n m : ℕ) → Bits (take (wire_count n m) (zeros wire_limit))
 front_bits n m c = rw (zeros_all wire_limit (wire_count n m) c) (omega arith)
 
 pub lay_inputs-requires-clause-bits : goal.lay_inputs-requires-clause-bits
-lay_inputs-requires-clause-bits c = (c.requires.inputs_len_bound.2, front_bits _ _)
+lay_inputs-requires-clause-bits c = (c.requires.m_bound.2, front_bits _ _)
 
 pub returns : goal.returns
 returns c =

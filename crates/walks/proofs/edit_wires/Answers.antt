@@ -9,21 +9,21 @@ use Rattle.walks.proofs.edit_wires.Goals as goal
 use Rattle.walks.proofs.edit_wires.Goals.{then-gate_reached, else-gate_reached}
 
 pub loop-signal-init : goal.loop-signal-init
-loop-signal-init c = (still_same c.requires.1, edit_start c.requires.0 _ _ _ _ signal_limit)
+loop-signal-init c = (still_same c.requires.0, edit_start c.args.walk.now.walkable _ _ _ _ signal_limit)
 
 pub gate_value-fresh-requires-clause-table : goal.gate_value-fresh-requires-clause-table
 gate_value-fresh-requires-clause-table c =
-    let k = c.requires.0 in
+    let k = c.args.walk.now.walkable in
     let t = turn k _ c.loop-signal-test.true c.from-x.ensures in
-    (k.sized, t.2, t.3)
+    (t.2, t.3)
 
 pub loop-signal-preserved : goal.loop-signal-preserved
 loop-signal-preserved c =
-    let k = c.requires.0 in
+    let k = c.args.walk.now.walkable in
     let v = c.loop-signal.invariant in
     let j = c.loop-signal.signal-index in
     let t = turn k j c.loop-signal-test.true c.from-x.ensures in
-    let long : signal_count c.args.n ≤ length c.loop-signal.marks = omega (arith, k.sized.0) in
+    let long : signal_count c.args.walk.now.gates.n ≤ length c.loop-signal.marks = omega (arith, k.sized.0) in
     let r = c.gate_reached.ensures in
     elim c.if-gate_reached.branch [
       | then-gate_reached w ↦ (
@@ -40,5 +40,5 @@ pub returns : goal.returns
 returns c =
     record {
       still = c.loop-signal.invariant.0;
-      done = edit_end c.requires.0 _ _ _ _ c.loop-signal.marks c.loop-signal.invariant.0 c.requires.1 c.loop-signal.signal-index c.loop-signal-test.false c.loop-signal.invariant.1;
+      done = edit_end c.args.walk.now.walkable _ _ _ _ c.loop-signal.marks c.loop-signal.invariant.0 c.requires.0 c.loop-signal.signal-index c.loop-signal-test.false c.loop-signal.invariant.1;
     }

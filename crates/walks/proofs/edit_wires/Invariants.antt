@@ -7,5 +7,6 @@ use Rattle.walks.proofs.edit_wires.Given as goal
 
 abbrev pub invariant-loop-signal : goal.invariant-loop-signal
 invariant-loop-signal l =
-    StillWires l.n l.m l.initial.wires l.wires
-    × EditedAt l.table l.n l.order l.contents l.changed l.edited l.initial.wires (8 * l.n + l.signal-index) l.marks l.wires
+    let n = l.walk.gates.n in
+    StillWires n l.walk.m l.initial.wires l.wires
+    × EditedAt l.walk.gates.table.now n l.walk.order.now l.contents l.changed l.edited l.initial.wires (8 * n + l.signal-index) l.marks l.wires

@@ -4,17 +4,17 @@ use Rattle.walks.proofs.Turns.{turn, set_still, settle_turn, settle_start, settl
 use Rattle.walks.proofs.settle_wires.Goals as goal
 
 pub loop-signal-init : goal.loop-signal-init
-loop-signal-init c = let on = flops_now c.spread_flops.ensures in (on.still, settle_start c.requires.0 _ _ on.still _ on)
+loop-signal-init c = let on = flops_now c.spread_flops.ensures in (on.still, settle_start c.args.walk.now.walkable _ _ on.still _ on)
 
 pub gate_value-value-requires-clause-table : goal.gate_value-value-requires-clause-table
 gate_value-value-requires-clause-table c =
-    let k = c.requires.0 in
+    let k = c.args.walk.now.walkable in
     let t = turn k _ c.loop-signal-test.true c.from-x.ensures in
-    (k.sized, t.2, t.3)
+    (t.2, t.3)
 
 pub loop-signal-preserved : goal.loop-signal-preserved
 loop-signal-preserved c =
-    let k = c.requires.0 in
+    let k = c.args.walk.now.walkable in
     let v = c.loop-signal.invariant in
     let j = c.loop-signal.signal-index in
     let t = turn k j c.loop-signal-test.true c.from-x.ensures in
@@ -26,5 +26,5 @@ returns c =
     let v = c.loop-signal.invariant in
     record {
       still = record { wires = v.0.wires; inputs = v.0.inputs ∙ on.still.inputs };
-      settled = rw on.still.inputs at (settle_end c.requires.0 _ _ v.0 _ c.loop-signal.signal-index c.loop-signal-test.false v.1);
+      settled = rw on.still.inputs at (settle_end c.args.walk.now.walkable _ _ v.0 _ c.loop-signal.signal-index c.loop-signal-test.false v.1);
     }

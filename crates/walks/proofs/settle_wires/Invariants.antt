@@ -10,5 +10,6 @@ use Rattle.walks.proofs.settle_wires.Given as goal
 
 abbrev pub invariant-loop-signal : goal.invariant-loop-signal
 invariant-loop-signal l =
-    StillWires l.n l.m l.initial.wires l.wires
-    × SettledTo (gate_of l.table l.n) (env l.contents l.flops (inputs_on l.n l.initial.wires)) l.order (8 * l.n + l.signal-index) (values_on l.n l.wires)
+    let n = l.walk.gates.n in
+    StillWires n l.walk.m l.initial.wires l.wires
+    × SettledTo (gate_of l.walk.gates.table.now n) (env l.contents l.flops (inputs_on n l.initial.wires)) l.walk.order.now (8 * n + l.signal-index) (values_on n l.wires)

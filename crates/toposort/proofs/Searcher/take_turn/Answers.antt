@@ -5,7 +5,7 @@ use mathlib.Core.Logic.{inl}
 use native.Mathlib.Omega.{arith}
 use lib.ListN.{length}
 use Rattle.netlist.specs.declared.Gate.{Gate}
-use Rattle.toposort.specs.declared.Gates.{Gates}
+use Rattle.netlist.specs.declared.Gates.{Gates}
 use Rattle.toposort.specs.declared.Scan.{Scan}
 use Rattle.toposort.specs.declared.Searcher.{Searcher}
 use Rattle.toposort.specs.Search.{Search}
