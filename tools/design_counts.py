@@ -65,7 +65,10 @@ def lines(paths):
 
 
 def main(arguments):
-    root = next((a for a in arguments if not a.startswith("-")), ".")
+    folders = [a for a in arguments if not a.startswith("-")]
+    root = folders[0] if folders else "."
+    if len(folders) > 1 or set(arguments) - set(folders) - {"--list"} or not os.path.isdir(os.path.join(root, "crates")):
+        sys.exit("design_counts: a checkout is wanted; --help says more")
     answers = files(root, "*/Answers.antt", "*/*/Answers.antt")
     invariants = files(root, "*/Invariants.antt", "*/*/Invariants.antt")
     repeated = facts(root)
