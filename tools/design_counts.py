@@ -9,6 +9,7 @@ import collections
 import glob
 import os
 import re
+import signal
 import sys
 
 
@@ -68,7 +69,8 @@ def main(arguments):
     folders = [a for a in arguments if not a.startswith("-")]
     root = folders[0] if folders else "."
     if len(folders) > 1 or set(arguments) - set(folders) - {"--list"} or not os.path.isdir(os.path.join(root, "crates")):
-        sys.exit("design_counts: a checkout is wanted; --help says more")
+        print("design_counts: a checkout is wanted; --help says more", file=sys.stderr)
+        sys.exit(2)
     answers = files(root, "*/Answers.antt", "*/*/Answers.antt")
     invariants = files(root, "*/Invariants.antt", "*/*/Invariants.antt")
     repeated = facts(root)
@@ -100,6 +102,7 @@ def main(arguments):
 
 
 if __name__ == "__main__":
+    signal.signal(signal.SIGPIPE, signal.SIG_DFL)
     if "--help" in sys.argv[1:]:
         print(__doc__)
     else:
