@@ -6,7 +6,7 @@ use Rattle.slicefile.specs.declared.Reason.{Reason}
 use Rattle.slicefile.specs.declared.Reason.TheVariants.{WrongBuffer}
 use Rattle.slicefile.specs.declared.Refusal.{Refusal}
 use Rattle.slicefile.specs.declared.Size.{Size}
-use Rattle.slicefile.specs.Refusals.{refused as refused_at, Tested, Answer}
+use Rattle.slicefile.specs.Refusals.{refused as refused_at, Tested, Answer, Verdict}
 use Rattle.rules.specs.Rules.{given}
 use Rattle.column.specs.Clock.{State, state_was, state_left, power_up}
 use Rattle.column.specs.Judge.{Judged}
@@ -22,6 +22,11 @@ pub data Called (file : List ℕ) (own : ℕ → ℕ → Tested) (Kept : Type 0)
 pub data Planned (own : Tested) (Kept Did : Type 0) : Answer → Type 0 where
   turned_down : {r : Reason} → own ≡ Err r → Kept → Planned own Kept Did (Err (refused_at r 0))
   carried_out : own ≡ Ok tt → Did → Planned own Kept Did (Ok tt)
+
+-- the judge's refusal as the answer of a call
+abbrev pub refusal_of : Verdict → Answer
+refusal_of (Ok size) = Ok tt
+refusal_of (Err r) = Err r
 
 -- "power up (fills contents and flip-flops)"
 abbrev pub PoweredUp : List ℕ → State → State → Answer → Type 0

@@ -1,12 +1,19 @@
-// The first of the calls on a slice file, power up: the file is judged first, and its refusal is handed on.
+// How a call on a slice file goes: the file is judged first, and its refusal is handed on. And the first of the calls, power up.
 #![tactic(auto)]
 
 ghost use Rattle.std.specs.Prelude.{◌≡◌, ◌*◌, length};
 ghost use Rattle.column.specs.Clock.{power_up};
-ghost use Rattle.calls.specs.Calls.{PowersUp};
+ghost use Rattle.calls.specs.Calls.{refusal_of, PowersUp};
 
 use column::Sound;
-use slicefile::{POWER_UP, Reason, Refusal, Size};
+use slicefile::{POWER_UP, Reason, Refusal, Size, Verdict};
+
+// The judge's refusal as the answer of a call.
+pub fn refusal(verdict: Verdict) -> Result<(), Refusal>
+    ensures { result ≡ refusal_of verdict }
+{
+    verdict.map(|_| ())
+}
 
 // Fills the contents with those of a sound file.
 #[tactic(auto, using(plan::proofs::Numbers::sound_for, slicefile::proofs::Filling::filled_all), unfolding(column::specs::Clock::power_up))]

@@ -99,9 +99,9 @@ fn print_number(rt: &impl Print, n: u64) -> io::Result<()> {
 
 // A refusal: its number and its place.
 fn print_refusal(rt: &impl Print, refusal: Refusal) -> io::Result<()> {
-    let number = usize::from(refusal.reason);
-    let place = refusal.place;
-    print!(rt; " refused {number} {place}")
+    print!(rt; " refused")?;
+    print_number(rt, usize::from(refusal.reason) as u64)?;
+    print_number(rt, refusal.place as u64)
 }
 
 // The numbers of the signals at 1.
@@ -114,18 +114,27 @@ fn print_ones(rt: &impl Print, values: &[u8]) -> io::Result<()> {
     Ok(())
 }
 
-// Settles a file from power-up, in the contents lent. Power up's refusal is passed over: settle has the same to give.
-fn settle(file: &File, contents: &mut [u64], values: &mut [u8]) -> Result<(), Refusal> {
-    let mut flops = [0u8; 1];
-    calls::power_up(file, contents, &mut flops).ok();
-    simulator::settle(file, contents, &flops, &[], values)
+// Settles, in a frame of its own: the plan shall not stand on the stack while power up judges.
+#[inline(never)]
+fn settle(file: &File, contents: &[u64], flops: &[u8], values: &mut [u8]) -> Result<(), Refusal> {
+    simulator::settle(file, contents, flops, &[], values)
 }
 
-// What a file settles to from power-up. The value table starts as ones.
+// One clock, in a frame of its own as well.
+#[inline(never)]
+fn clock(file: &File, contents: &mut [u64], flops: &mut [u8]) -> Result<(), Refusal> {
+    let mut values = [0u8; SLICE_SIGNALS];
+    simulator::clock(file, contents, flops, &[], &mut values)
+}
+
+// What a file settles to from power-up, in the contents lent. The value table starts as ones. Power up's refusal is passed over: settle has the
+// same to give.
 fn settle_case(rt: &impl Print, label: &str, file: File, contents: &mut [u64]) -> io::Result<()> {
+    let mut flops = [0u8; 1];
     let mut values = [1u8; SLICE_SIGNALS];
+    calls::power_up(&file, contents, &mut flops).ok();
     print!(rt; "{label}")?;
-    match settle(&file, contents, &mut values) {
+    match settle(&file, contents, &flops, &mut values) {
         Ok(()) => print_ones(rt, &values)?,
         Err(refusal) => print_refusal(rt, refusal)?,
     }
@@ -136,10 +145,9 @@ fn settle_case(rt: &impl Print, label: &str, file: File, contents: &mut [u64]) -
 fn clocked(file: File, clocks: usize) -> Result<Left, Refusal> {
     let mut contents = [0u64; 4];
     let mut flops = [0u8; 1];
-    let mut values = [0u8; SLICE_SIGNALS];
     calls::power_up(&file, &mut contents, &mut flops)?;
     for _ in 0..clocks {
-        simulator::clock(&file, &mut contents, &mut flops, &[], &mut values)?;
+        clock(&file, &mut contents, &mut flops)?;
     }
     Ok(Left {
         word: contents[3],

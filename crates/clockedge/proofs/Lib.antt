@@ -3,3 +3,4 @@ pub mod Byte
 pub mod Together
 pub mod Places
 pub mod Laws
+pub mod Moving

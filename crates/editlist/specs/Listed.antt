@@ -1,5 +1,5 @@
 -- A list of edits as it is lent, and as words: "lent a list of 0 to 256 edits".
-use Rattle.std.specs.Prelude.{ℕ, zero, suc, ◌+◌, ◌*◌, ◌<◌, ◌≡◌, cond, List, [], ◌∷◌, ltb, get_or}
+use Rattle.std.specs.Prelude.{ℕ, zero, suc, ◌+◌, ◌*◌, ◌<◌, ◌≡◌, cond, List, [], ◌∷◌, ltb, get_or, set}
 use Rattle.editlist.specs.declared.Edit.{Edit}
 
 abbrev pub edit_limit : ℕ
@@ -16,9 +16,15 @@ none = edit 0 0 0
 abbrev pub edit_words : ℕ
 edit_words = 3
 
--- edit i of the words
+abbrev pub list_length : ℕ
+list_length = edit_words * edit_limit
+
+-- edit i of the words, and the words with edit i put into them
 abbrev pub edit_at : List ℕ → ℕ → Edit
 edit_at words i = edit (get_or words (edit_words * i) 0) (get_or words (edit_words * i + 1) 0) (get_or words (edit_words * i + 2) 0)
+
+abbrev pub with_edit : List ℕ → ℕ → Edit → List ℕ
+with_edit words i e = set (set (set words (edit_words * i) e.kind) (edit_words * i + 1) e.number) (edit_words * i + 2) e.value
 
 -- the k edits of the words from edit i on
 abbrev pub edits_from : List ℕ → ℕ → ℕ → List Edit

@@ -2,7 +2,8 @@
 use mathlib.Core.Path.{◌≡◌, refl, sym, ◌∙◌, ap, subst}
 use mathlib.Core.Bool.{Bool, true, false, cond, true≢false}
 use mathlib.Core.List.{List}
-use Prim.Native.Nat.{ℕ}
+use Prim.Native.Nat.{ℕ, ◌<◌}
+use borrow.Author.Tests.{lt-ltb}
 use lib.Dec.{ltb}
 use lib.ListN.{length}
 use Rattle.netlist.specs.Rule.{Env}
@@ -19,6 +20,10 @@ use Rattle.edits.specs.Edits.{bad_edits, state_in, EditsMade}
 pub too_long : (bad : ℕ → ℕ → Bool) (m : ℕ) (es : List Edit) → ltb edit_limit (length es) ≡ true → bad_edits bad m es ≡ true
 unfolding bad_edits
 too_long bad m es e = rw e
+
+-- and so are more edits in words than a list may have
+pub long_bad : (bad : ℕ → ℕ → Bool) (m : ℕ) (words : List ℕ) (count : ℕ) → edit_limit < count → true ≡ bad_edits bad m (edits_in words count)
+long_bad bad m words count h = sym (too_long bad m (edits_in words count) (rw (edits_long words 0 count) (lt-ltb edit_limit count h)))
 
 -- of two lists that are bad alike, and the same where they are not bad, the call promises the same
 module _ (file : List ℕ) (before after : Env) (es ds : List Edit) (old new : List ℕ) (bad : (n m : ℕ) → bad_edits (bad_table file n) m ds ≡ bad_edits (bad_table file n) m es) (same : (n m : ℕ) → bad_edits (bad_table file n) m es ≡ false → es ≡ ds) where

@@ -42,6 +42,13 @@ put_as same p = record { long = p.long; put = λ i h. p.put i h ∙ same i h; ke
 pub put_whole : {src old new : List ℕ} → length old ≡ length src → PutAll src 0 old new → new ≡ src
 put_whole {src} {old} {new} size p = ext_get_or 0 new src (p.long ∙ size) (λ i h. rw (zero-add i) at (p.put i (omega (arith, p.long))))
 
+-- the bytes before k are copied, and then all are
+abbrev pub Copied : List ℕ → ℕ → List ℕ → Type 0
+Copied from k to = (length to ≡ length from) × ((i : ℕ) → i < k → get_or to i 0 ≡ get_or from i 0)
+
+pub copied_whole : (from to : List ℕ) → Copied from (length from) to → to ≡ from
+copied_whole from to c = ext_get_or 0 to from c.0 (λ i h. c.1 i (omega (arith, c.0)))
+
 -- a run behind those that are put
 pub put_more : {f : ℕ → ℕ} {at k j : ℕ} {old now new : List ℕ} → Put f at k old now → Put (λ i. f (k + i)) (at + k) j now new → Put f at (k + j) old new
 put_more {f} {at} {k} {j} {old} {now} {new} p q =

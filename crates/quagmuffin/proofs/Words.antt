@@ -8,7 +8,7 @@ use native.Mathlib.Decide.{ℕ_discrete}
 use native.Mathlib.Omega.{arith}
 use borrow.Author.Tests.{eq-eqb, ne_eqb}
 use lib.Dec.{eqb}
-use lib.ListN.{length, get_or}
+use lib.ListN.{length, get_or, set}
 use Rattle.slicefile.specs.Format.{slice_limit}
 use Rattle.slicefile.specs.declared.Reason.{Reason}
 use Rattle.slicefile.specs.declared.Reason.TheVariants.{WrongBuffer, OutOfRange}
@@ -72,6 +72,13 @@ module _ (i : ℕ) where
       by_number (no ne) = ap pack_reply (told_verdict ne) ∙ verdict_again
 
 -- ---- three words
+pub three_stored : (l : List ℕ) (a b c : ℕ) → length l ≡ state_length → set (set (set l 0 a) 1 b) 2 c ≡ a ∷ b ∷ c ∷ []
+three_stored (x ∷ y ∷ z ∷ []) a b c e = refl
+three_stored (x ∷ y ∷ z ∷ w ∷ l) a b c e = absurd (omega arith)
+three_stored (x ∷ y ∷ []) a b c e = absurd (omega arith)
+three_stored (x ∷ []) a b c e = absurd (omega arith)
+three_stored [] a b c e = absurd (omega arith)
+
 three_read : (l : List ℕ) → length l ≡ state_length → get_or l 0 0 ∷ get_or l 1 0 ∷ get_or l 2 0 ∷ [] ≡ l
 three_read (x ∷ y ∷ z ∷ []) e = refl
 three_read (x ∷ y ∷ z ∷ w ∷ l) e = absurd (omega arith)
@@ -113,6 +120,13 @@ module _ (P : Reply → Type 0) (small : (v : Verdict) → SmallVerdict v → P 
     feeds_all f = by_row (eqb (length store) file_limit) r.said (foreign r) refl refl f.by
 
 -- ---- what the exported call says and hands on fits
+pub loaded_length : (state : List ℕ) {r : Reader} → loaded state ≡ Some r → length state ≡ state_length
+loaded_length state {r} e = by_length (ℕ_discrete (length state) state_length)
+  where
+    by_length : Dec (length state ≡ state_length) → length state ≡ state_length
+    by_length (yes three) = three
+    by_length (no ne) = absurd (cc (e, ne_eqb (length state) state_length ne))
+
 loaded_reader : (state : List ℕ) {r : Reader} → loaded state ≡ Some r → r ≡ reader_of state
 loaded_reader state {r} e = by_length (ℕ_discrete (length state) state_length)
   where

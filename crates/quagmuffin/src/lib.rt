@@ -1,14 +1,14 @@
 // The exported library: each call takes slices and numbers, and answers one number, the answer of the call below it, packed.
 #![tactic(auto)]
 
-ghost use Rattle.std.specs.Prelude.{◌≡◌};
+ghost use Rattle.std.specs.Prelude.{◌≡◌, length};
 ghost use Rattle.column.specs.Judge.{Judged};
 ghost use Rattle.calls.specs.Calls.{PowersUp};
 ghost use Rattle.simulator.specs.Running.{Settles, Clocks};
 ghost use Rattle.edits.specs.Edits.{Edits};
 ghost use Rattle.quagmuffin.specs.Bodies.{ReadInto, WrittenFrom, RecordRead, RecordWritten};
 ghost use Rattle.quagmuffin.specs.Packed.{pack_refusal, pack_answer, pack_verdict, unpack_verdict, FitsRefusal, FitsAnswer, Fits, Packed, Answered};
-ghost use Rattle.quagmuffin.specs.Serial.{pack_reply, unpack_reply, FitsReply, loaded, words_of, FeedsWords};
+ghost use Rattle.quagmuffin.specs.Serial.{pack_reply, unpack_reply, state_length, FitsReply, loaded, words_of, FeedsWords};
 
 use editlist::Edit;
 use slicefile::{HEAD, Reason, Refusal, SLICE_BODY, SLICE_RECORD, Size, Verdict};
@@ -112,7 +112,7 @@ fn read_body(bytes: &[u8], n: usize, m: usize, body: &mut [u8]) -> Result<(), Re
         return Err(Reason::WrongBuffer.at(0));
     }
     recordcalls::read_record(bytes, n, m)?;
-    body.copy_from_slice(&bytes[HEAD..SLICE_RECORD]);
+    lent::copy_bytes(body, &bytes[HEAD..SLICE_RECORD]);
     Ok(())
 }
 
@@ -186,20 +186,18 @@ fn load_reader(state: &[u64]) -> Option<Reader>
     })
 }
 
-// The state of a reader.
-fn state_of(reader: Reader) -> [u64; 3]
-    requires { FitsReply reader.said }
-    ensures { result ≡ words_of reader }
+// Stores a reader in a state of three words.
+fn store_reader(state: &mut [u64], reader: Reader)
+    requires { (length state.old ≡ state_length) × FitsReply reader.said }
+    ensures { state.new ≡ words_of reader }
 {
-    [
-        reader.len as u64,
-        reader.passed as u64,
-        pack_reply(reader.said),
-    ]
+    state[0] = reader.len as u64;
+    state[1] = reader.passed as u64;
+    state[2] = pack_reply(reader.said);
 }
 
 // Gives a reader the next run of a file's bytes, and whether no more will come: 0 is "more", else its verdict.
-#[tactic(auto, using(crate::proofs::Words::reply_packs, crate::proofs::Words::said_packs))]
+#[tactic(auto, using(crate::proofs::Words::loaded_length, crate::proofs::Words::reply_packs, crate::proofs::Words::said_packs))]
 pub fn qm_feed(state: &mut [u64], store: &mut [u8], run: &[u8], last: u8) -> u64
     ensures { FeedsWords state.old store.old run.now last result state.new store.new }
 {
@@ -207,6 +205,6 @@ pub fn qm_feed(state: &mut [u64], store: &mut [u8], run: &[u8], last: u8) -> u64
         return pack_refusal(Reason::WrongBuffer.at(0));
     };
     let Fed { reply, reader } = stream::feed(reader, store, run, last != 0);
-    state.copy_from_slice(&state_of(reader));
+    store_reader(state, reader);
     pack_reply(reply)
 }

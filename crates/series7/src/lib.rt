@@ -132,12 +132,20 @@ impl Pinned<'_, '_> {
         let table = (4 * self.slice.s + l) as u16;
         let pins = self.pins;
         let first = TABLE_PINS * l;
-        let mut row = [table, 0, 0, 0, 0, 0, 0];
         if self.slice.body[MODE + l] == 2 {
-            row[1..TABLE_PINS].copy_from_slice(&pins[first + 1..first + TABLE_PINS]);
-        } else {
-            row[1..].copy_from_slice(&pins[first..first + TABLE_PINS]);
+            // Pin by pin: pin 1 is not read, and the sixth source is 0.
+            return [
+                table,
+                pins[first + 1],
+                pins[first + 2],
+                pins[first + 3],
+                pins[first + 4],
+                pins[first + 5],
+                0,
+            ];
         }
+        let mut row = [table, 0, 0, 0, 0, 0, 0];
+        row[1..].copy_from_slice(&pins[first..first + TABLE_PINS]);
         row
     }
 

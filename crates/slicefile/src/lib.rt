@@ -126,8 +126,9 @@ pub enum Reason {
 impl From<Reason> for usize {
     ghost from_gives = { λ r k. k ≡ number r };
 
+    // The names' numbers by themselves, and 12 in the place of `Other`'s: arms that count on are a sum for the compiler, and no jump by a table.
     fn from(reason: Reason) -> usize {
-        match reason {
+        let named = match reason {
             Reason::Cut => 1,
             Reason::UnknownTag => 2,
             Reason::WrongLength => 3,
@@ -139,7 +140,11 @@ impl From<Reason> for usize {
             Reason::OnLoop => 9,
             Reason::WrongBuffer => 10,
             Reason::OutOfRange => 11,
+            Reason::Other(_) => 12,
+        };
+        match reason {
             Reason::Other(number) => number,
+            _ => named,
         }
     }
 }

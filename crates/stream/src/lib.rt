@@ -64,7 +64,9 @@ fn hear(bytes: &[u8], passed: usize) -> Reader
     }
 }
 
-// Takes a run into the store of a reader that has given no verdict yet. Where a run has no room, the part of it that has is stored, and the store is checked from its start.
+// Takes a run into the store of a reader that has given no verdict yet. Where a run has no room, the part of it that has is stored, and the store is
+// checked from its start. Never inlined: most runs of a few bytes don't get here, and shall not pay for it.
+#[inline(never)]
 fn take_run(reader: Reader, store: &mut [u8], run: &[u8], last: bool) -> Reader
     requires { (length store.old ≡ file_limit) × (foreign reader ≡ false) }
     ensures { Takes reader store.old run.now last result store.new }
@@ -73,7 +75,7 @@ fn take_run(reader: Reader, store: &mut [u8], run: &[u8], last: bool) -> Reader
     let passed = reader.passed;
     let room = FILE_LIMIT - at;
     if room < run.len() {
-        store[at..].copy_from_slice(&run[..room]);
+        lent::copy_bytes(&mut store[at..], &run[..room]);
         let full = hear(store, 0);
         return Reader {
             len: FILE_LIMIT,
@@ -82,7 +84,7 @@ fn take_run(reader: Reader, store: &mut [u8], run: &[u8], last: bool) -> Reader
         };
     }
     let len = at + run.len();
-    store[at..len].copy_from_slice(run);
+    lent::copy_bytes(&mut store[at..len], run);
     let bytes = &store[..len];
     if last {
         return Reader {
@@ -123,7 +125,7 @@ fn take(reader: Reader, store: &mut [u8], run: &[u8], last: bool) -> Reader
         return take_run(reader, store, run, last);
     }
     let len = at + run.len();
-    store[at..len].copy_from_slice(run);
+    lent::copy_bytes(&mut store[at..len], run);
     Reader {
         len,
         passed,

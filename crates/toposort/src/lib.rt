@@ -77,18 +77,18 @@ fn first_mark(gates: &Gates, x: usize) -> u8
 // the stack has, how many signals are done, and the smallest signal known to be on a loop (the number of signals where none is,
 // so that the smaller of two is their `min`).
 #[derive(Clone, Copy)]
-struct Scan {
-    next: usize,
-    depth: usize,
-    len: usize,
-    count: usize,
-    done: usize,
-    best: usize,
+pub struct Scan {
+    pub next: usize,
+    pub depth: usize,
+    pub len: usize,
+    pub count: usize,
+    pub done: usize,
+    pub best: usize,
 }
 
 // What the open signal on top asks for next.
 #[derive(Clone, Copy)]
-enum Turn {
+pub enum Turn {
     Close(usize),
     Leave,
     Raise,

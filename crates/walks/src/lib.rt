@@ -32,7 +32,7 @@ fn lay_inputs(n: usize, inputs: &[u8], wires: &mut [u8])
 {
     wires[0] = 0;
     wires[1] = 1;
-    wires[SIGNAL_WIRE + SLICE_SIGNALS * n..].copy_from_slice(inputs);
+    lent::copy_bytes(&mut wires[SIGNAL_WIRE + SLICE_SIGNALS * n..], inputs);
 }
 
 // Lays a value table on wires.
@@ -40,7 +40,7 @@ fn lay_values(n: usize, m: usize, values: &[u8], wires: &mut [u8])
     requires { (signal_count n ≤ signal_limit) × (length values.now ≡ signal_count n) × Bits values.now × IsWires n m wires.old }
     ensures { StillWires n m wires.old wires.new × (values_on n wires.new ≡ values.now) }
 {
-    wires[SIGNAL_WIRE..SIGNAL_WIRE + values.len()].copy_from_slice(values);
+    lent::copy_bytes(&mut wires[SIGNAL_WIRE..SIGNAL_WIRE + values.len()], values);
 }
 
 // Reads the value table off the wires.
@@ -48,7 +48,7 @@ fn read_values(n: usize, wires: &[u8], values: &mut [u8])
     requires { (signal_count n ≤ signal_limit) × (input_wire n ≤ length wires.now) × (length values.old ≡ signal_count n) }
     ensures { values.new ≡ values_on n wires.now }
 {
-    values.copy_from_slice(&wires[SIGNAL_WIRE..SIGNAL_WIRE + SLICE_SIGNALS * n]);
+    lent::copy_bytes(values, &wires[SIGNAL_WIRE..SIGNAL_WIRE + SLICE_SIGNALS * n]);
 }
 
 // Puts the eight bits of a byte on wires, from a place on.

@@ -61,8 +61,8 @@ fn stack_that_is_used_is_seen() {
     assert!(bytes < STACK_LIMIT + 4096, "{bytes} bytes");
 }
 
-/// What a compiler calls for copies and fills; they allocate nothing.
-const ALLOWED: [&str; 4] = ["memcmp", "memcpy", "memmove", "memset"];
+/// What a compiler calls for copies and fills; they allocate nothing. A host has to bring no other.
+const ALLOWED: [&str; 2] = ["memcpy", "memset"];
 
 #[test]
 fn the_library_refers_to_no_allocator() {

@@ -6,4 +6,4 @@ use Rattle.quagmuffin.proofs.read_body.Goals as goal
 pub returns : goal.returns
 returns c =
     let e = sym c.read_record.ensures ∙ c.in_ok-read_record.was in
-    rw c.copy_from_slice.ensures.after (read_stored c.args.bytes.now _ _ _ (λ i. (c.type_inv.bytes i).fits) c.if-body-ne-SLICE_BODY.false e)
+    rw c.copy_bytes.ensures (read_stored c.args.bytes.now _ _ _ (λ i. (c.type_inv.bytes i).fits) c.if-body-ne-SLICE_BODY.false e)

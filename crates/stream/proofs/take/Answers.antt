@@ -16,6 +16,6 @@ returns c =
     -- the run ends inside a slice
     let inside : StaysInside (take a.reader.len a.store.now) a.reader.passed (length a.run.now)
     = c.stays_inside-waits.ensures (not-false _ (or_right a.last (not c.stays_inside-waits.result) c.if-last-waits.false)) in
-    let stored = sets_part a.store.now a.run.now a.reader.len (omega (arith, within, inside.room, length-take a.reader.len a.store.now)) c.copy_from_slice.ensures.after in
+    let stored = sets_part a.store.now a.run.now a.reader.len (omega (arith, within, inside.room, length-take a.reader.len a.store.now)) c.copy_bytes.ensures in
     takes_inside a.reader a.store.now a.run.now c.requires.0 within a.last (omega (arith, inside.room, length-take a.reader.len a.store.now)) stored
     (or_left a.last (not c.stays_inside-waits.result) c.if-last-waits.false) inside

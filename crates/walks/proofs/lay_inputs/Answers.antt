@@ -9,4 +9,4 @@ use Rattle.walks.proofs.lay_inputs.Goals as goal
 pub returns : goal.returns
 returns c =
     laid_inputs c.args.n c.args.inputs.now c.args.wires.now _ c.requires.n_bound.1 c.requires.bits.0 c.requires.bits.1
-    (put_mid_all c.copy_from_slice.ensures.after (omega (arith, length-set {A = ℕ})) (omega (arith, length-set {A = ℕ})))
+    (put_mid_all c.copy_bytes.ensures (omega (arith, length-set {A = ℕ})) (omega (arith, length-set {A = ℕ})))

@@ -6,4 +6,4 @@ use Rattle.walks.proofs.lay_values.Goals as goal
 
 pub returns : goal.returns
 returns c =
-    laid_values c.requires.3 c.requires.1 c.requires.2 (put_mid_all c.copy_from_slice.ensures.after (omega arith) (omega (arith, c.requires.3.size)))
+    laid_values c.requires.3 c.requires.1 c.requires.2 (put_mid_all c.copy_bytes.ensures (omega arith) (omega (arith, c.requires.3.size)))
